@@ -1,14 +1,21 @@
 //! The ledger: a file with a line of JSON for each event, for a checker of a network.
 //!
-//! A line is written by one call and isn't buffered, so a process that is killed loses at most one.
-//! The member `at` of a line is in nanoseconds since the Unix epoch.
+//! A thread of its own writes the lines, each by one call, so a process that is killed leaves whole
+//! lines, and loses those that waited. The member `at` of a line is in nanoseconds since the Unix
+//! epoch.
 
 use crate::json::Object;
+use crate::writer::Writer;
 use p2p_directory::{Info, Key, Moment};
 use std::fmt::Display;
-use std::fs::{File, OpenOptions};
-use std::io::{self, Write};
+use std::fs::OpenOptions;
+use std::io;
+use std::os::unix::fs::OpenOptionsExt;
 use std::path::Path;
+use std::time::Duration;
+
+/// How many bytes of lines wait at most until they are written.
+const ROOM: usize = 4 << 20;
 
 /// An event that is written to the ledger.
 #[derive(Clone, Copy)]
@@ -91,28 +98,43 @@ fn with_info(line: Object, info: &Info) -> Object {
 
 /// The file of a ledger.
 #[derive(Debug)]
-pub struct Ledger(File);
+pub struct Ledger(Writer);
 
 impl Ledger {
-    /// Opens the file to append lines, and creates it if there is none.
+    /// Opens the file to append lines. If there is none, it is created for its owner alone. `lost`
+    /// is called by the thread that writes, for each line that can't be written.
     ///
     /// # Errors
     ///
     /// That of the system.
-    pub fn open(path: &Path) -> io::Result<Ledger> {
+    pub fn open(
+        path: &Path,
+        mut lost: impl FnMut(&io::Error) + Send + 'static,
+    ) -> io::Result<Ledger> {
         let mut options = OpenOptions::new();
-        options.append(true).create(true).open(path).map(Ledger)
+        let file = options.append(true).create(true).mode(0o600).open(path)?;
+        let goes_on = move |error: &io::Error| {
+            lost(error);
+            true
+        };
+        Writer::start(file, ROOM, goes_on).map(Ledger)
     }
 
-    /// Writes the line of an event at a time.
+    /// Queues the line of an event at a time, and doesn't wait until it is written.
     ///
     /// # Errors
     ///
-    /// That of the system.
+    /// [`io::ErrorKind::TimedOut`] if too many lines wait. Then this one is dropped.
     pub fn write(&self, at: Moment, entry: &Entry<'_>) -> io::Result<()> {
         let mut line = entry.line(at);
         line.push('\n');
-        (&self.0).write_all(line.as_bytes())
+        self.0.push(line.into_bytes())
+    }
+
+    /// Waits until all lines are written, at most so long. Returns whether they are.
+    #[must_use]
+    pub fn finish(&self, within: Duration) -> bool {
+        self.0.finish(within)
     }
 }
 

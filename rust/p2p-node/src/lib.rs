@@ -18,3 +18,4 @@ pub mod settings;
 pub mod simulate;
 pub mod sodium;
 pub mod wire;
+pub mod writer;

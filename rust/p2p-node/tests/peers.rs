@@ -348,6 +348,8 @@ fn infos_of_frames_stand_in_the_ledger() {
 #[test]
 fn questions_are_of_each_retained_set() {
     let (folder, node) = start("--tick 0.05 --silence 20 --cooldown 1");
+    // The node listens before it reads the first one.
+    node.until_count("latest_set", 0);
     for index in [5, 9] {
         folder.set(index, &[1, 2]);
         node.until_count("latest_set", index);

@@ -6,6 +6,7 @@ use common::{Folder, QUICK, Running, key, member, until};
 use p2p_directory::Replay;
 use p2p_directory::record::{Argument, Call, Log};
 use std::fs;
+use std::os::unix::fs::MetadataExt;
 use std::path::Path;
 use std::time::Duration;
 
@@ -59,6 +60,19 @@ fn a_record_ends_at_its_limit() {
     drop(node);
     assert!(log(&path).is_full());
     assert!(fs::metadata(&path).unwrap().len() <= 1000);
+}
+
+#[test]
+fn a_ledger_and_a_record_are_files_of_their_owner_alone() {
+    let folder = Folder::new();
+    folder.set(0, &[1, 2]);
+    let (ledger, record) = (folder.path("new-ledger"), folder.path("record"));
+    let (of_ledger, of_record) = (ledger.display(), record.display());
+    let words = format!("{QUICK} --ledger {of_ledger} --record {of_record}");
+    let _node = Running::start(&folder, 1, &words);
+    for path in [ledger, record] {
+        assert_eq!(path.metadata().unwrap().mode() & 0o777, 0o600, "{path:?}");
+    }
 }
 
 /// The time that two arguments of a call tell.

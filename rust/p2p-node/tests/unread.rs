@@ -1,4 +1,4 @@
-//! Peers that don't read what a node sends, and an output that nobody reads.
+//! Peers that don't read what a node sends, and outputs that nobody reads.
 
 mod common;
 
@@ -8,8 +8,12 @@ use common::{
 };
 use p2p_directory::{BitVec, Payload};
 use p2p_node::wire::write_frame;
-use std::fs;
+use std::fs::{self, File, OpenOptions};
+use std::io::{ErrorKind, Write};
 use std::net::TcpStream;
+use std::os::unix::fs::OpenOptionsExt;
+use std::path::PathBuf;
+use std::process::Command;
 use std::time::Duration;
 
 /// The number of peers. Most are connected, so a reply has the infos of most.
@@ -153,4 +157,69 @@ fn a_node_whose_output_is_not_read_goes_on_and_ends_in_time() {
     assert_eq!(status.code(), Some(0));
     assert!(passed < Duration::from_secs(2), "{passed:?}");
     drop(pipe);
+}
+
+/// A pipe with a name that is full, and that nobody reads as long as the file lives.
+fn full_pipe(folder: &Folder, name: &str) -> (PathBuf, File) {
+    let path = folder.path(name);
+    let made = Command::new("mkfifo").arg(&path).status().unwrap();
+    assert!(made.success());
+    let mut options = OpenOptions::new();
+    // O_NONBLOCK of Linux. A pipe that is opened for both has a reader.
+    let options = options.read(true).write(true).custom_flags(0o4000);
+    let mut pipe = options.open(&path).unwrap();
+    for length in [4096, 1] {
+        while pipe.write(&[b'\n'; 4096][..length]).is_ok() {}
+    }
+    let full = pipe.write(b"\n").unwrap_err();
+    assert_eq!(full.kind(), ErrorKind::WouldBlock);
+    (path, pipe)
+}
+
+#[test]
+fn a_node_whose_ledger_and_record_stall_goes_on_and_ends_in_time() {
+    let folder = Folder::new();
+    folder.set(0, &[1, 2]);
+    let (ledger, _ledger) = full_pipe(&folder, "ledger");
+    let (record, _record) = full_pipe(&folder, "record");
+    let (ledger, record) = (ledger.display(), record.display());
+    let words = format!("{QUICK} --ledger {ledger} --record {record}");
+    let first = Running::start(&folder, 1, &words);
+    let second = Running::start(&folder, 2, &format!("{QUICK} {}", first.as_bootstrapper()));
+    second.until_count("connected", 1);
+    first.until_count("connected", 1);
+    let begun = Counts::of(&first).unwrap();
+    // Some ticks, in each of which the record is flushed.
+    first.until_at_least("frames_in", begun.read + 10);
+    assert!(second.events("disconnected").is_empty());
+    let (status, passed) = first.terminate();
+    assert_eq!(status.code(), Some(0));
+    assert!(passed < Duration::from_secs(2), "{passed:?}");
+    second.until_event("disconnected", &key(1));
+}
+
+#[test]
+fn lines_for_which_a_ledger_has_no_room_are_counted() {
+    let folder = Folder::new();
+    folder.set(0, &(1..=250).collect::<Vec<u8>>());
+    let (ledger, _ledger) = full_pipe(&folder, "ledger");
+    // The only connection is that of the peer, so none is dialled.
+    let words = "--tick 60 --silence 120 --burst 1000 --max-connections 1";
+    let node = Running::start(
+        &folder,
+        1,
+        &format!("{words} --ledger {}", ledger.display()),
+    );
+    let stream = node.dial(2);
+    let greeting = Payload::Greeting(info(2, NAMESPACE, milliseconds()));
+    send(&stream, &greeting.encode());
+    // Each frame is 248 lines of more than 250 bytes, and 4 MiB have room.
+    let begin = milliseconds() - 1000;
+    for step in 0..80 {
+        let infos = (3..=250).map(|number| info(number, NAMESPACE, begin + step));
+        send(&stream, &Payload::Peers(infos.collect()).encode());
+    }
+    node.until_at_least("frames_in", 81);
+    node.until_at_least("ledger_losses", 1);
+    node.until_count("connected", 1);
 }

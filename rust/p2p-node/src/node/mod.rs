@@ -13,21 +13,24 @@ mod tracking;
 mod turns;
 
 use crate::broken::Rule;
-use crate::counts::{Event, Refusal};
+use crate::counts::{Counts, Event, Refusal};
 use crate::handshake::HandshakeError;
 use crate::identity::{Identity, verify};
 use crate::ledger::{Entry, Ledger};
 use crate::sets::SetFiles;
 use crate::settings::Settings;
 use crate::sodium::{Sodium, stop_on_signals};
+use crate::writer::{Queued, Writer};
 use clock::Clock;
 use p2p_directory::record::Recorder;
 use p2p_directory::{Info, Ingress, Moment, Node, Setup};
 use shared::{Parts, Shared};
 use std::fmt::Display;
-use std::fs::File;
+use std::fs::OpenOptions;
 use std::io::{self, BufWriter, Write};
+use std::mem;
 use std::net::TcpListener;
+use std::os::unix::fs::OpenOptionsExt;
 use std::sync::Arc;
 use std::sync::mpsc::{Receiver, sync_channel};
 use std::thread;
@@ -37,13 +40,19 @@ use std::time::{Duration, Instant, SystemTime};
 const POLL: Duration = Duration::from_millis(50);
 
 /// How long the end waits for threads.
-const PATIENCE: Duration = Duration::from_millis(1500);
+const PATIENCE: Duration = Duration::from_millis(1400);
+
+/// How much longer it waits at most until the ledger and the record are written.
+const OF_FILES: Duration = Duration::from_millis(300);
 
 /// Of so many ticks, a peer is blocked in one, by the rule that blocks at random.
 const TICKS_TO_BLOCK: u64 = 4;
 
-/// How many bytes of recorded calls are written at once.
-const RECORD_BUFFER: usize = 256 << 10;
+/// How many bytes of recorded calls are queued at once.
+const RECORD_BUFFER: usize = 64 << 10;
+
+/// How many bytes of them wait at most until they are written. If there are more, the record ends.
+const RECORD_ROOM: usize = 8 << 20;
 
 /// Runs a node until a signal ends it.
 ///
@@ -55,14 +64,13 @@ pub fn run(settings: Settings) -> Result<(), String> {
     let identity = Identity::read(sodium, &settings.key)?;
     let listener = listen(&settings)?;
     let address = own_address(&settings, &listener)?;
-    let ledger = settings.ledger.as_deref().map(|path| {
-        let said = |error: io::Error| format!("ledger {}: {error}", path.display());
-        Ledger::open(path).map_err(said)
-    });
+    let counts = Arc::new(Counts::default());
+    let ledger = ledger(&settings, &counts)?;
+    let record = record(&settings)?;
     let myself = own_info(&settings, &identity, address.clone())?;
     let setup = setup(&settings, myself.clone());
-    let node = match recorder(&settings)? {
-        Some(recorder) => Node::new_recorded(&setup, recorder),
+    let node = match &record {
+        Some(record) => Node::new_recorded(&setup, recorder(&settings, record)),
         None => Node::new(&setup),
     };
     let node = node.map_err(|error| format!("settings: {error}"))?;
@@ -70,7 +78,9 @@ pub fn run(settings: Settings) -> Result<(), String> {
     let stop = stop_on_signals().map_err(|error| format!("signals: {error}"))?;
     let parts = Parts {
         frame_limit: settings.frame_limit().ok_or("settings: frames too long")?,
-        ledger: ledger.transpose()?,
+        counts,
+        ledger,
+        record,
         settings,
         sodium,
         identity,
@@ -88,14 +98,41 @@ pub fn run(settings: Settings) -> Result<(), String> {
     Ok(())
 }
 
-/// The recorder of the directory's calls, if they are to be recorded.
-fn recorder(settings: &Settings) -> Result<Option<Recorder>, String> {
+/// The ledger, if there is to be one. What can't be written is counted, and said once.
+fn ledger(settings: &Settings, counts: &Arc<Counts>) -> Result<Option<Ledger>, String> {
+    let Some(path) = &settings.ledger else {
+        return Ok(None);
+    };
+    let (counts, mut is_said) = (Arc::clone(counts), false);
+    let lost = move |error: &io::Error| {
+        counts.event(Event::LedgerLost);
+        if !mem::replace(&mut is_said, true) {
+            warn(&format_args!("ledger: {error}"));
+        }
+    };
+    let ledger = Ledger::open(path, lost);
+    let said = |error: io::Error| format!("ledger {}: {error}", path.display());
+    ledger.map(Some).map_err(said)
+}
+
+/// What writes the record of the directory's calls, if they are to be recorded.
+fn record(settings: &Settings) -> Result<Option<Writer>, String> {
     let Some(path) = &settings.record else {
         return Ok(None);
     };
+    let mut options = OpenOptions::new();
+    let file = options.write(true).create(true).truncate(true).mode(0o600);
+    let file = file.open(path);
+    // After an error no later part of the record may stand in the file.
+    let writer = file.and_then(|file| Writer::start(file, RECORD_ROOM, |_| false));
     let said = |error: io::Error| format!("record {}: {error}", path.display());
-    let file = BufWriter::with_capacity(RECORD_BUFFER, File::create(path).map_err(said)?);
-    Ok(Some(Recorder::new(file, settings.record_limit)))
+    writer.map(Some).map_err(said)
+}
+
+/// The recorder of the directory's calls, which ends if they can't be written in time.
+fn recorder(settings: &Settings, record: &Writer) -> Recorder {
+    let sink = BufWriter::with_capacity(RECORD_BUFFER, Queued(record.clone()));
+    Recorder::new(sink, settings.record_limit)
 }
 
 fn listen(settings: &Settings) -> Result<TcpListener, String> {
@@ -208,21 +245,27 @@ fn block_at_random(shared: &Shared) {
     }
 }
 
-/// Ends all connections, and waits for their threads, which release their reservations.
+/// Ends all connections, and waits for their threads, which release their reservations, and then for
+/// the files.
 fn end(shared: &Shared) {
     let begin = Instant::now();
     shared.lock().end();
     while shared.threads() > 0 && begin.elapsed() < PATIENCE {
         thread::sleep(Duration::from_millis(5));
     }
-    let state = shared.lock();
-    let now = state.now();
     let held = shared.connections.taken();
     if held > 0 {
         warn(&format_args!("{held} connections had not ended"));
     }
+    let state = shared.lock();
+    let now = state.now();
     shared.record(now, &Entry::Stopped(held));
     state.node.directory().end_record();
+    drop(state);
+    let left = (PATIENCE + OF_FILES).saturating_sub(begin.elapsed());
+    for name in shared.finish_files(left) {
+        warn(&format_args!("{name}: not written to its end"));
+    }
 }
 
 /// Says something on the standard error output. Nobody may read it.

@@ -2,7 +2,6 @@
 
 use super::clock::Clock;
 use super::turns::Turns;
-use super::warn;
 use crate::broken::Rule;
 use crate::counts::{Counts, Event};
 use crate::identity::Identity;
@@ -10,6 +9,7 @@ use crate::ledger::{Entry, Ledger};
 use crate::limits::{Slot, Slots};
 use crate::settings::Settings;
 use crate::sodium::Sodium;
+use crate::writer::Writer;
 use p2p_directory::{Key, Moment, Node};
 use std::collections::HashMap;
 use std::io::{self, ErrorKind};
@@ -18,7 +18,7 @@ use std::sync::atomic::{AtomicBool, Ordering};
 use std::sync::mpsc::SyncSender;
 use std::sync::{Arc, Mutex, MutexGuard, PoisonError};
 use std::thread;
-use std::time::Duration;
+use std::time::{Duration, Instant};
 
 /// The stack of each thread, in bytes. Calls of the directory need 32 KiB of it.
 const STACK: usize = 256 << 10;
@@ -34,7 +34,7 @@ pub struct Shared {
     /// The maximum length of a frame, in bytes.
     pub frame_limit: u32,
     /// What the node counts.
-    pub counts: Counts,
+    pub counts: Arc<Counts>,
     /// The slots of connections, and of dials that are under way.
     pub connections: Arc<Slots>,
     /// The slots of inbound handshakes.
@@ -43,7 +43,7 @@ pub struct Shared {
     pub stop: &'static AtomicBool,
     threads: Arc<Slots>,
     ledger: Option<Ledger>,
-    has_lost_lines: AtomicBool,
+    record: Option<Writer>,
     state: Mutex<State>,
     // It has a capacity of one: if it is full, the next round has been requested already.
     wakes: SyncSender<()>,
@@ -169,8 +169,12 @@ pub struct Parts {
     pub identity: Identity,
     /// The maximum length of a frame, in bytes.
     pub frame_limit: u32,
+    /// What the node counts.
+    pub counts: Arc<Counts>,
     /// The ledger, if there is one.
     pub ledger: Option<Ledger>,
+    /// What writes the record of calls, if there is one.
+    pub record: Option<Writer>,
     /// Whether the node has to end.
     pub stop: &'static AtomicBool,
     /// The clock.
@@ -195,11 +199,11 @@ impl Shared {
             settings: parts.settings,
             sodium: parts.sodium,
             identity: parts.identity,
-            counts: Counts::default(),
+            counts: parts.counts,
             stop: parts.stop,
             threads: Slots::new(usize::MAX),
             ledger: parts.ledger,
-            has_lost_lines: AtomicBool::new(false),
+            record: parts.record,
             state: Mutex::new(State::new(node, own, parts.clock)),
             wakes,
             kept: Mutex::new(Vec::new()),
@@ -236,18 +240,25 @@ impl Shared {
         self.settings.directory().draw(self.sodium.number())
     }
 
-    /// Writes an event to the ledger, if there is one. What can't be written is counted, and said
-    /// once.
+    /// Queues an event for the ledger, if there is one. What finds no room there is counted.
     pub fn record(&self, at: Moment, entry: &Entry<'_>) {
-        let Some(ledger) = &self.ledger else {
-            return;
-        };
-        if let Err(error) = ledger.write(at, entry) {
+        if let Some(ledger) = &self.ledger
+            && ledger.write(at, entry).is_err()
+        {
             self.counts.event(Event::LedgerLost);
-            if !self.has_lost_lines.swap(true, Ordering::Relaxed) {
-                warn(&format_args!("ledger: {error}"));
-            }
         }
+    }
+
+    /// Waits until ledger and record are written, at most so long. Returns the names of those that
+    /// are not.
+    pub fn finish_files(&self, within: Duration) -> Vec<&'static str> {
+        let begin = Instant::now();
+        let left = || within.saturating_sub(begin.elapsed());
+        let ledger = self.ledger.iter();
+        let ledger = ledger.filter(|ledger| !ledger.finish(left()));
+        let record = self.record.iter().filter(|record| !record.finish(left()));
+        let names = ledger.map(|_| "ledger").chain(record.map(|_| "record"));
+        names.collect()
     }
 
     /// Keeps a frame for ever, by the rule that leaks.

@@ -9,6 +9,7 @@ use crate::settings::Settings;
 use crate::sodium::Sodium;
 use p2p_directory::{Info, Ingress, Key, Moment, Node, OrderedSet, Payload, Tracked};
 use std::net::SocketAddr;
+use std::sync::Arc;
 use std::sync::atomic::{AtomicBool, AtomicU64, Ordering};
 use std::sync::mpsc::sync_channel;
 use std::thread;
@@ -62,7 +63,9 @@ fn shared(wall: fn() -> SystemTime) -> Shared {
         settings,
         sodium: Sodium::new().unwrap(),
         identity,
+        counts: Arc::default(),
         ledger: None,
+        record: None,
         stop: &NEVER,
         clock: Clock::new(wall),
     };

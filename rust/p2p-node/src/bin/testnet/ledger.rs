@@ -138,7 +138,8 @@ mod tests {
     fn reads_what_a_node_writes() {
         let path = std::env::temp_dir().join(format!("testnet-ledger-{}", std::process::id()));
         let _ = std::fs::remove_file(&path);
-        let written = Written::open(&path).unwrap();
+        let written = Written::open(&path, |error| panic!("{error}")).unwrap();
+        let minute = Duration::from_secs(60);
         let mut ledger = Ledger::new(path.clone());
         ledger.update();
         assert!(ledger.events.is_empty());
@@ -147,11 +148,13 @@ mod tests {
         written
             .write(Moment::from_secs(3), &Entry::Started(&own))
             .unwrap();
+        assert!(written.finish(minute));
         ledger.update();
         let entry = Entry::Grant(&two, Direction::Dial);
         written.write(Moment::from_secs(4), &entry).unwrap();
         let entry = Entry::Block(&two, &"a reason");
         written.write(Moment::from_secs(5), &entry).unwrap();
+        assert!(written.finish(minute));
         ledger.update();
         std::fs::remove_file(path).unwrap();
         assert_eq!(ledger.own(), Some(&(one, 70, own.ingress.to_string())));
