@@ -34,8 +34,8 @@ counted! {
         FrameIn = "frames_in",
         /// A frame was written to a stream.
         FrameOut = "frames_out",
-        /// A frame of a peer that sends too many was not looked at.
-        Ignored = "frames_ignored",
+        /// A frame of a peer that sends too many had to wait, and the peer's further ones with it.
+        Delayed = "frames_delayed",
         /// A reply was dropped, since the peer doesn't read.
         ReplyDropped = "replies_dropped",
         /// A reply had more infos than peers accept, and was made again with fewer.

@@ -49,6 +49,7 @@ impl Drop for Slot {
 }
 
 /// A token bucket. It is full at first, an event takes a token, and tokens come back with time.
+/// Tokens may be taken before they are there.
 #[derive(Clone, Debug)]
 pub struct TokenBucket {
     burst: f64,
@@ -69,16 +70,13 @@ impl TokenBucket {
         }
     }
 
-    /// Takes a token, or returns false if there is none.
-    pub fn take(&mut self, now: Instant) -> bool {
+    /// Takes a token, and returns how long it takes until it is there: no time if there is one now.
+    pub fn take(&mut self, now: Instant) -> Duration {
         let passed = now.saturating_duration_since(self.since).as_secs_f64();
         self.since = self.since.max(now);
-        self.tokens = (self.tokens + passed * self.a_second).min(self.burst);
-        if self.tokens < 1.0 {
-            return false;
-        }
-        self.tokens -= 1.0;
-        true
+        self.tokens = (self.tokens + passed * self.a_second).min(self.burst) - 1.0;
+        let missing = (-self.tokens).max(0.0);
+        Duration::try_from_secs_f64(missing / self.a_second).unwrap_or(Duration::MAX)
     }
 }
 
@@ -102,14 +100,17 @@ mod tests {
         let start = Instant::now();
         let after = |milliseconds| start + Duration::from_millis(milliseconds);
         let mut bucket = TokenBucket::new(3, 2, Duration::from_secs(1), start);
-        let given = (0..10).filter(|_| bucket.take(start)).count();
-        assert_eq!(given, 3);
-        assert!(!bucket.take(after(499)));
-        assert!(bucket.take(after(501)));
-        assert!(!bucket.take(after(502)));
+        let is_near = |wait: Duration, milliseconds| {
+            wait.abs_diff(Duration::from_millis(milliseconds)) < Duration::from_micros(1)
+        };
+        assert!((0..3).all(|_| bucket.take(start).is_zero()));
+        // Half a second brings a token.
+        assert!(is_near(bucket.take(start), 500));
+        assert!(is_near(bucket.take(after(500)), 500));
+        assert!(is_near(bucket.take(after(900)), 600));
         // Ten seconds would bring twenty tokens, and three fit.
-        let given = (0..10).filter(|_| bucket.take(after(10_000))).count();
-        assert_eq!(given, 3);
-        assert!(!bucket.take(after(9_000)));
+        assert!((0..3).all(|_| bucket.take(after(10_900)).is_zero()));
+        assert!(is_near(bucket.take(after(10_900)), 500));
+        assert!(is_near(bucket.take(after(9_000)), 1000));
     }
 }

@@ -6,6 +6,7 @@ use std::fmt;
 use std::io::{self, ErrorKind, Read, Write};
 use std::net::TcpStream;
 use std::sync::atomic::{AtomicBool, Ordering};
+use std::thread;
 use std::time::{Duration, Instant};
 
 /// How long a call of the system waits before the flag and the deadline are looked at.
@@ -42,6 +43,25 @@ impl<'s> Timed<'s> {
     /// Sets the deadline of all reads and writes from now on together, or takes it away.
     pub fn set_deadline(&mut self, within: Option<Duration>) {
         self.deadline = within.and_then(|within| Instant::now().checked_add(within));
+    }
+
+    /// Waits so long and reads nothing.
+    ///
+    /// # Errors
+    ///
+    /// That of the stream if it is shut down meanwhile, or the flag is set.
+    pub fn pause(&mut self, time: Duration) -> io::Result<()> {
+        let begin = Instant::now();
+        self.set_deadline(None);
+        loop {
+            // A write of nothing fails once the stream is shut down.
+            let _ = self.write(&[])?;
+            let left = time.saturating_sub(begin.elapsed());
+            if left.is_zero() {
+                return Ok(());
+            }
+            thread::sleep(left.min(POLL));
+        }
     }
 
     /// Repeats a call while it only waited, until the deadline has passed or the flag is set.

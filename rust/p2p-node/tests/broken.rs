@@ -90,7 +90,7 @@ fn no_limit_has_no_deadline_bound_or_bucket() {
     }
     // The greeting, a question and ten replies.
     node.until_count("frames_out", 12);
-    node.until_count("frames_ignored", 0);
+    node.until_count("frames_delayed", 0);
     std::thread::sleep(Duration::from_secs(1));
     assert!(node.events("disconnected").is_empty());
     // A frame of 100,000 bytes is read whole, and refused for what is in it.
@@ -121,7 +121,9 @@ fn memory(node: &Running) -> u64 {
 
 /// How much a node grows while a peer sends it 32 MiB.
 fn growth(words: &str) -> u64 {
-    let (_folder, node) = start(&format!("--tick 60 --silence 120 --cooldown 1 {words}"));
+    let (_folder, node) = start(&format!(
+        "--tick 60 --silence 120 --cooldown 1 --burst 40 {words}"
+    ));
     let stream = node.dial(2);
     greet(&stream, 2);
     let frame = Payload::Data(Data {

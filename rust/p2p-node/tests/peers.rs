@@ -3,7 +3,8 @@
 mod common;
 
 use common::{
-    Folder, NAMESPACE, QUICK, Running, frames, info, key, member, milliseconds, send, timed, until,
+    Folder, LIMIT, NAMESPACE, QUICK, Running, frames, info, key, member, milliseconds, send, timed,
+    until,
 };
 use p2p_directory::{BitVec, Data, Info, Payload, PayloadConfig};
 use p2p_node::wire::read_frame;
@@ -265,11 +266,14 @@ fn questions_beyond_the_burst_are_not_answered() {
     for _ in 0..50 {
         send(&stream, &bits(3));
     }
-    // No token comes in within a minute.
-    node.until_count("frames_ignored", 45);
-    assert!(begin.elapsed() < Duration::from_secs(55));
+    // No token comes in within a minute. The question behind the fifth one waits for it.
+    node.until_count("frames_delayed", 1);
+    node.until_count("frames_in", 7);
     // The node greets, asks once at the beginning of its tick, and replies five times.
     node.until_count("frames_out", 7);
+    std::thread::sleep(Duration::from_secs(2));
+    node.until_count("frames_in", 7);
+    assert!(begin.elapsed() < Duration::from_secs(55));
     assert_eq!(node.events("disconnected").len(), 0);
     drop(node);
     let replies = frames(&stream)
@@ -280,21 +284,76 @@ fn questions_beyond_the_burst_are_not_answered() {
 
 #[test]
 fn tokens_come_in_with_time() {
-    let (_folder, node) = start("--tick 0.5 --silence 20 --cooldown 1 --burst 2 --refill 1");
+    let (_folder, node) = start("--tick 0.5 --silence 60 --cooldown 1 --burst 2 --refill 1");
     let stream = node.dial(2);
     send(&stream, &greeting(2));
-    for _ in 0..3 {
+    let begin = Instant::now();
+    for _ in 0..6 {
         send(&stream, &bits(3));
     }
-    node.until_count("frames_ignored", 1);
-    std::thread::sleep(Duration::from_millis(700));
-    send(&stream, &bits(3));
-    std::thread::sleep(Duration::from_millis(300));
-    drop(node);
-    let replies = frames(&stream)
-        .into_iter()
-        .filter(|frame| frame.first() == Some(&3));
-    assert_eq!(replies.count(), 3);
+    // Two are answered at once, and each further one takes a tick.
+    let mut replies = 0;
+    while replies < 6 {
+        let frame = read_frame(&mut timed(&stream), LIMIT).unwrap();
+        replies += usize::from(frame.first() == Some(&3));
+    }
+    let passed = begin.elapsed();
+    assert!(passed >= Duration::from_secs(2), "{passed:?}");
+    node.until_at_least("frames_delayed", 1);
+}
+
+/// Sends frames of two bytes to a node until it reads none of them any more.
+fn flood(stream: &TcpStream) {
+    let frames = [0, 0, 0, 2, 3, 0].repeat(10_000);
+    let timeout = Some(Duration::from_secs(1));
+    stream.set_write_timeout(timeout).unwrap();
+    // The buffers of the system don't have 120 MB.
+    let sent = (0..2000).take_while(|_| (&*stream).write_all(&frames).is_ok());
+    assert!(sent.count() < 2000, "the node reads all");
+}
+
+#[test]
+fn what_a_peer_sends_beyond_its_rate_is_not_read() {
+    let (_folder, node) = start("--tick 0.5 --silence 120 --cooldown 1 --burst 8 --refill 4");
+    let (stream, begin) = (node.dial(2), Instant::now());
+    send(&stream, &greeting(2));
+    flood(&stream);
+    node.until_at_least("frames_in", 20);
+    let status = node.status().unwrap();
+    let read: u64 = member(&status, "frames_in").unwrap().parse().unwrap();
+    // A greeting, the burst, eight frames a second, and one that waits.
+    let most = 10 + 8 * begin.elapsed().as_secs();
+    assert!(read <= most + 8, "{read} of {most} frames");
+    node.until_count("connected", 1);
+    assert!(node.events("disconnected").is_empty());
+    // Another peer is served meanwhile.
+    let third = node.dial(3);
+    send(&third, &greeting(3));
+    node.until_event("info", &key(3));
+}
+
+#[test]
+fn a_peer_whose_frames_wait_is_disconnected_by_a_set() {
+    let (folder, node) = start("--tick 0.5 --silence 120 --cooldown 1 --refill 1 --max-sets 1");
+    let stream = node.dial(2);
+    send(&stream, &greeting(2));
+    flood(&stream);
+    folder.set(1, &[1, 3]);
+    // The million of frames that wait would last for days.
+    node.until_event("teardown", &key(2));
+    node.until_event("disconnected", &key(2));
+    node.until_count("connections", 0);
+}
+
+#[test]
+fn a_peer_that_leaves_while_its_frames_wait_is_disconnected() {
+    let (_folder, node) = start("--tick 0.5 --silence 120 --cooldown 1 --refill 1");
+    let stream = node.dial(2);
+    send(&stream, &greeting(2));
+    flood(&stream);
+    drop(stream);
+    node.until_event("disconnected", &key(2));
+    node.until_count("blocked", 0);
 }
 
 #[test]

@@ -284,11 +284,13 @@ fn read(
         if frame.first() == Some(&GREETING) {
             return Err(End::Broken(Breach::SecondGreeting));
         }
-        if bucket.take(Instant::now()) || settings.breaks(Rule::NoLimit) {
-            received::process(shared, peer, outbox, &frame)?;
-        } else {
-            shared.counts.event(Event::Ignored);
+        let wait = bucket.take(Instant::now());
+        if !wait.is_zero() && !settings.breaks(Rule::NoLimit) {
+            // What else the peer sends stays in the stream, until it can't send any more.
+            shared.counts.event(Event::Delayed);
+            reader.get_mut().pause(wait)?;
         }
+        received::process(shared, peer, outbox, &frame)?;
     }
 }
 
