@@ -62,8 +62,10 @@ counted! {
 counted! {
     /// Why a peer, or a stream, was refused.
     Refusal {
-        /// There are as many inbound handshakes as there may be.
+        /// There were as many inbound handshakes as there may be, and one of them gave way.
         HandshakeLimit = "handshake_limit",
+        /// There are as many inbound handshakes of an address as there may be.
+        AddressLimit = "address_limit",
         /// The stream ended during the handshake, or took too long.
         HandshakeStream = "handshake_stream",
         /// A dialer has a key that isn't accepted now.

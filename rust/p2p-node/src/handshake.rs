@@ -8,7 +8,8 @@
 //!
 //! A nonce and a key have 32 bytes, a signature 64. A signature is over [`signed_bytes`] in the
 //! namespace of the network with a suffix. The listener sends nothing to a dialer whose key isn't
-//! accepted. Nothing is encrypted, and what follows the handshake isn't authenticated.
+//! accepted: it is of no set, is blocked, is connected, or its cooldown isn't over. Nothing is
+//! encrypted, and what follows the handshake isn't authenticated.
 
 use crate::identity::{Identity, verify};
 use crate::sodium::Sodium;
@@ -180,15 +181,17 @@ impl Own<'_> {
         Ok(())
     }
 
-    /// Proves the own key to a dialer, and returns the key that the dialer has proved.
+    /// Proves the own key to a dialer, and returns the key that the dialer has proved. The closure is
+    /// asked once the dialer has claimed a key, and may set another deadline of the stream.
     ///
     /// # Errors
     ///
-    /// Says why the dialer is refused, or how the stream failed.
-    pub fn listen(
+    /// Says why the dialer is refused, or how the stream failed. If the key isn't acceptable,
+    /// nothing is signed or sent.
+    pub fn listen<S: Read + Write>(
         &self,
-        stream: &mut (impl Read + Write),
-        is_acceptable: impl FnOnce(&Key) -> bool,
+        stream: &mut S,
+        is_acceptable: impl FnOnce(&mut S, &Key) -> bool,
     ) -> Result<Key, HandshakeError> {
         let listener_key = self.identity.public_key();
         let dialer_nonce: Nonce = array(stream)?;
@@ -196,7 +199,7 @@ impl Own<'_> {
         if dialer_key == listener_key {
             return Err(HandshakeError::Reflected);
         }
-        if !is_acceptable(&dialer_key) {
+        if !is_acceptable(stream, &dialer_key) {
             return Err(HandshakeError::NotAcceptable(dialer_key));
         }
         let listener_nonce: Nonce = self.sodium.bytes();

@@ -168,12 +168,13 @@ fn no_repair_asks_nothing() {
 fn a_node_that_breaks_no_rule_keeps_them() {
     let (_folder, node) = start("--tick 60 --silence 120 --cooldown 600 --handshake 0.2");
     assert_eq!(timed(&node.stream()).read(&mut [0]).unwrap(), 0);
-    for _ in 0..3 {
-        drop(node.dial(2));
-        until("the end", || {
-            (node.events("disconnected").len() == 1).then_some(())
-        });
+    drop(node.dial(2));
+    until("the end", || {
+        (node.events("disconnected").len() == 1).then_some(())
+    });
+    for _ in 0..2 {
+        assert!(node.try_dial(2).is_err());
     }
-    node.until_count("not_granted", 2);
+    node.until_count("not_acceptable", 2);
     assert_eq!(node.events("grant").len(), 1);
 }

@@ -79,7 +79,7 @@ fn dial(attack: Attack) -> Result<(), HandshakeError> {
 fn listen(attack: Attack) -> Result<Key, HandshakeError> {
     let (dialer, listener) = pair();
     let attacker = thread::spawn(move || forge(&dialer, &attack));
-    let result = own(&identity(1), NAMESPACE).listen(&mut timed(&listener), |_| true);
+    let result = own(&identity(1), NAMESPACE).listen(&mut timed(&listener), |_, _| true);
     attacker.join().unwrap();
     result
 }
@@ -184,7 +184,7 @@ fn the_signature_of_the_listener_is_refused_if_it_comes_back() {
         (&dialer).write_all(signature.as_ref()).unwrap();
         dialer
     });
-    let result = own(&identity(1), NAMESPACE).listen(&mut timed(&listener), |_| true);
+    let result = own(&identity(1), NAMESPACE).listen(&mut timed(&listener), |_, _| true);
     assert!(
         matches!(result, Err(HandshakeError::Signature(peer)) if peer == key(2)),
         "{result:?}"
@@ -201,7 +201,7 @@ fn an_own_key_is_refused() {
             .dial(&mut timed(&dialer), &key)
             .is_err()
     });
-    let result = own(&identity(1), NAMESPACE).listen(&mut timed(&listener), |_| true);
+    let result = own(&identity(1), NAMESPACE).listen(&mut timed(&listener), |_, _| true);
     assert!(
         matches!(result, Err(HandshakeError::Reflected)),
         "{result:?}"
@@ -249,7 +249,7 @@ fn a_signature_of_another_key_is_refused() {
     let third = thread::spawn(move || {
         let identity = identity(3);
         own(&identity, NAMESPACE)
-            .listen(&mut timed(&listener), |_| true)
+            .listen(&mut timed(&listener), |_, _| true)
             .is_err()
     });
     let result = own(&identity(1), NAMESPACE).dial(&mut timed(&dialer), &key(2));
@@ -267,7 +267,7 @@ fn nothing_is_sent_to_a_key_that_is_not_acceptable() {
     (&dialer)
         .write_all(&[&[7; NONCE_SIZE], key(2).as_ref()].concat())
         .unwrap();
-    let result = own(&identity(1), NAMESPACE).listen(&mut timed(&listener), |_| false);
+    let result = own(&identity(1), NAMESPACE).listen(&mut timed(&listener), |_, _| false);
     assert!(
         matches!(result, Err(HandshakeError::NotAcceptable(_))),
         "{result:?}"

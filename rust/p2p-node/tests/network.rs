@@ -66,7 +66,9 @@ fn grants_of_a_peer_are_a_cooldown_apart() {
     let node = Running::start(&folder, 1, QUICK);
     // The peer comes as often as it can. It doesn't greet, so the node doesn't know where to dial it.
     let granted = until("three grants", || {
-        frames_of(&node.dial(2), 1);
+        if let Ok(stream) = node.try_dial(2) {
+            frames_of(&stream, 1);
+        }
         let granted = node.events("grant");
         (granted.len() == 3).then_some(granted)
     });
@@ -78,7 +80,7 @@ fn grants_of_a_peer_are_a_cooldown_apart() {
         assert!(pair[1] - pair[0] >= 1_000_000_000, "{times:?}");
     }
     let status = until("refusals", || node.status());
-    assert_ne!(member(&status, "not_granted"), Some("0"), "{status}");
+    assert_ne!(member(&status, "not_acceptable"), Some("0"), "{status}");
 }
 
 #[test]
@@ -169,8 +171,10 @@ fn a_signal_ends_a_node_within_two_seconds() {
     connect_all(&nodes);
     let ledger = folder.path("ledger1");
     let [first, second, third] = nodes;
-    // A handshake that doesn't go on.
-    let _hanging = first.stream();
+    // A handshake that doesn't go on, of a peer that isn't there.
+    folder.set(1, &[1, 2, 3, 4]);
+    first.until_count("latest_set", 1);
+    let _hanging = first.claim(4);
     first.until_count("handshakes", 1);
     let (status, passed) = first.terminate();
     assert_eq!(status.code(), Some(0));

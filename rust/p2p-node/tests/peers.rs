@@ -66,11 +66,12 @@ fn is_blocked(sent: &[Vec<u8>], count: &str, reason: &str) {
 
 /// The node closes a stream whose dialer claims this key, and sends nothing.
 fn is_not_acceptable(node: &Running, number: u8) {
-    let mut stream = node.stream();
-    stream
-        .write_all(&[&[7; 32], key(number).as_ref()].concat())
-        .unwrap();
-    assert_eq!(timed(&stream).read(&mut [0]).unwrap(), 0);
+    is_closed(&node.claim(number));
+}
+
+/// The node closes the stream, and has sent nothing.
+fn is_closed(stream: &TcpStream) {
+    assert_eq!(timed(stream).read(&mut [0]).unwrap(), 0);
 }
 
 #[test]
@@ -205,20 +206,6 @@ fn a_handshake_has_a_deadline_however_slowly_bytes_arrive() {
 }
 
 #[test]
-fn handshakes_at_a_time_are_bounded() {
-    let (_folder, node) = start(&format!("{LATE} --max-handshakes 2"));
-    let held: Vec<TcpStream> = (0..2).map(|_| node.stream()).collect();
-    node.until_count("handshakes", 2);
-    // A third one is closed at once.
-    assert_eq!(timed(&node.stream()).read(&mut [0]).unwrap(), 0);
-    node.until_count("handshake_limit", 1);
-    drop(held);
-    node.until_count("handshakes", 0);
-    let _stream = node.dial(2);
-    node.until_event("connected", &key(2));
-}
-
-#[test]
 fn a_connection_takes_no_slot_of_handshakes() {
     let (_folder, node) = start(&format!("{LATE} --max-handshakes 1"));
     let _second = node.dial(2);
@@ -249,11 +236,27 @@ fn a_peer_that_is_connected_or_cooling_is_not_accepted_again() {
     is_not_acceptable(&node, 2);
     drop(stream);
     node.until_event("disconnected", &key(2));
-    // The cooldown is looked at once the key is proved.
-    assert!(frames(&node.dial(2)).is_empty());
-    node.until_count("not_granted", 1);
+    // Nothing is signed within the cooldown.
+    is_not_acceptable(&node, 2);
     is_not_acceptable(&node, 4);
-    node.until_count("not_acceptable", 2);
+    node.until_count("not_acceptable", 3);
+    node.until_count("not_granted", 0);
+    assert_eq!(node.events("grant").len(), 1);
+}
+
+#[test]
+fn a_peer_that_was_dialled_is_not_accepted_within_the_cooldown() {
+    let folder = Folder::new();
+    folder.set(0, &[1, 2]);
+    // Nobody answers at this address.
+    let words = format!(
+        "{LATE} --cooldown 600 --bootstrapper {}@127.0.0.1:9",
+        key(2)
+    );
+    let node = Running::start(&folder, 1, &words);
+    node.until_event("not_connected", &key(2));
+    is_not_acceptable(&node, 2);
+    node.until_count("not_acceptable", 1);
     assert_eq!(node.events("grant").len(), 1);
 }
 

@@ -122,6 +122,7 @@ fn grant_one(
     let Some(reservation) = directory.dial(peer, time, shared.draw())? else {
         return Ok(None);
     };
+    state.cooldowns.begin(peer, time);
     // A dropped reservation is released. There are no names, since they aren't allowed.
     let Metadata::Dialer(_, Ingress::Socket(address)) = *reservation.metadata() else {
         return Ok(None);

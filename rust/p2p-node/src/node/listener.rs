@@ -6,14 +6,14 @@ use super::shared::{Listed, Shared};
 use crate::counts::{Event, Refusal};
 use crate::handshake::{HandshakeError, Own};
 use crate::ledger::{Direction, Entry};
-use crate::limits::Slot;
+use crate::limits::Arrival;
 use crate::wire::Timed;
 use p2p_directory::{Key, Reservation};
 use std::io::ErrorKind;
-use std::net::{TcpListener, TcpStream};
+use std::net::{IpAddr, Shutdown, TcpListener, TcpStream};
 use std::sync::Arc;
 use std::thread;
-use std::time::Duration;
+use std::time::{Duration, Instant};
 
 /// How long the listener waits if there is no stream to accept.
 const IDLE: Duration = Duration::from_millis(10);
@@ -21,11 +21,14 @@ const IDLE: Duration = Duration::from_millis(10);
 /// How long it waits if the system can't accept one.
 const REST: Duration = Duration::from_millis(50);
 
+/// How long a dialer may take to claim a key, if a handshake may take longer.
+const CLAIM: Duration = Duration::from_secs(1);
+
 /// Accepts streams until the node ends. The listener must not block.
 pub fn run(shared: &Arc<Shared>, listener: &TcpListener) {
     while !shared.is_stopping() {
         match listener.accept() {
-            Ok((stream, _)) => begin(shared, stream),
+            Ok((stream, from)) => begin(shared, Arc::new(stream), from.ip()),
             Err(error) if error.kind() == ErrorKind::WouldBlock => thread::sleep(IDLE),
             Err(_) => {
                 shared.counts.event(Event::NoStream);
@@ -35,17 +38,22 @@ pub fn run(shared: &Arc<Shared>, listener: &TcpListener) {
     }
 }
 
-/// Starts a thread for a stream, within the bound on handshakes.
-fn begin(shared: &Arc<Shared>, stream: TcpStream) {
-    let Some(slot) = shared.handshakes.take() else {
-        return shared.counts.refusal(Refusal::HandshakeLimit);
+/// Starts a thread for a stream, within the bounds on handshakes.
+fn begin(shared: &Arc<Shared>, stream: Arc<TcpStream>, from: IpAddr) {
+    let Some((arrival, gone)) = shared.handshakes.take(from, &stream) else {
+        return shared.counts.refusal(Refusal::AddressLimit);
     };
+    if let Some(gone) = gone {
+        shared.counts.refusal(Refusal::HandshakeLimit);
+        // Its thread ends then. The dialer may have ended it before.
+        let _ = gone.shutdown(Shutdown::Both);
+    }
     let listed = stream
         .set_nonblocking(false)
         .and_then(|()| Listed::new(shared, stream, None));
     match listed {
         // A thread that can't be started is counted, and the stream is closed.
-        Ok(listed) => drop(shared.spawn(move |shared| accept(shared, listed, slot))),
+        Ok(listed) => drop(shared.spawn(move |shared| accept(shared, listed, arrival))),
         Err(error) if error.kind() == ErrorKind::OutOfMemory => {
             shared.counts.event(Event::OutOfMemory);
         }
@@ -54,7 +62,7 @@ fn begin(shared: &Arc<Shared>, stream: TcpStream) {
 }
 
 /// Authenticates the dialer, and returns when the connection has ended.
-fn accept(shared: &Arc<Shared>, listed: Listed, handshake: Slot) {
+fn accept(shared: &Arc<Shared>, listed: Listed, arrival: Arrival<TcpStream>) {
     let peer = match authenticate(shared, &listed) {
         Ok(peer) => peer,
         Err(error) => return shared.counts.refusal(refused_handshake(&error)),
@@ -62,24 +70,27 @@ fn accept(shared: &Arc<Shared>, listed: Listed, handshake: Slot) {
     let Some(slot) = shared.connections.take() else {
         return shared.counts.refusal(Refusal::ConnectionLimit);
     };
-    drop(handshake);
+    drop(arrival);
     if let Some(reservation) = grant(shared, &listed, &peer) {
         connection::run(shared, listed, reservation, slot);
     }
 }
 
+/// Proves the own key to a dialer that claims an acceptable one in time.
 fn authenticate(shared: &Shared, listed: &Listed) -> Result<Key, HandshakeError> {
     let own = Own {
         identity: &shared.identity,
         namespace: shared.settings.namespace.as_bytes(),
         sodium: shared.sodium,
     };
+    let (begin, whole) = (Instant::now(), shared.settings.handshake);
     let mut stream = Timed::new(&listed.stream, shared.stop)?;
-    stream.set_deadline(shared.within(shared.settings.handshake));
-    own.listen(&mut stream, |peer| {
+    stream.set_deadline(shared.within(whole.min(CLAIM)));
+    own.listen(&mut stream, |stream, peer| {
+        stream.set_deadline(shared.within(whole.saturating_sub(begin.elapsed())));
         let mut state = shared.lock();
         let time = state.time_to_look(&shared.settings);
-        state.node.directory().acceptable(peer, time)
+        state.cooldowns.is_over(peer, time) && state.node.directory().acceptable(peer, time)
     })
 }
 
@@ -92,6 +103,7 @@ fn grant(shared: &Shared, listed: &Listed, peer: &Key) -> Option<Reservation> {
     let time = state.time_to_grant(&shared.settings);
     match state.node.directory_mut().listen(peer, time, draw) {
         Ok(Some(reservation)) => {
+            state.cooldowns.begin(peer, time);
             listed.identify(&mut state, *peer);
             shared.record(now, &Entry::Grant(peer, Direction::Listen));
             Some(reservation)

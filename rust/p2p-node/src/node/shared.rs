@@ -6,7 +6,7 @@ use crate::broken::Rule;
 use crate::counts::{Counts, Event};
 use crate::identity::Identity;
 use crate::ledger::{Entry, Ledger};
-use crate::limits::{Slot, Slots};
+use crate::limits::{Arrivals, Cooldowns, Slot, Slots};
 use crate::settings::Settings;
 use crate::sodium::Sodium;
 use crate::writer::Writer;
@@ -23,6 +23,9 @@ use std::time::{Duration, Instant};
 /// The stack of each thread, in bytes. Calls of the directory need 32 KiB of it.
 const STACK: usize = 256 << 10;
 
+/// How many inbound handshakes one address may have at a time.
+const HANDSHAKES_OF_ADDRESS: usize = 8;
+
 /// The state that the threads share.
 pub struct Shared {
     /// The settings of the node.
@@ -37,8 +40,8 @@ pub struct Shared {
     pub counts: Arc<Counts>,
     /// The slots of connections, and of dials that are under way.
     pub connections: Arc<Slots>,
-    /// The slots of inbound handshakes.
-    pub handshakes: Arc<Slots>,
+    /// The inbound streams whose dialer has proved no key.
+    pub handshakes: Arc<Arrivals<TcpStream>>,
     /// Whether the node has to end.
     pub stop: &'static AtomicBool,
     threads: Arc<Slots>,
@@ -57,6 +60,8 @@ pub struct State {
     pub node: Node,
     /// Whose turn it is to be dialled.
     pub turns: Turns,
+    /// The cooldowns of peers, by which a handshake is refused before anything is signed.
+    pub cooldowns: Cooldowns,
     clock: Clock,
     // How far ahead of time grants are asked for, by the rule that grants early.
     ahead: Duration,
@@ -80,11 +85,12 @@ impl Open {
 }
 
 impl State {
-    /// The state of a node with this key that starts.
-    pub fn new(node: Node, own: Key, clock: Clock) -> State {
+    /// The state of a node with this key that starts, and whose peers have this cooldown.
+    pub fn new(node: Node, own: Key, cooldown: Duration, clock: Clock) -> State {
         State {
             node,
             turns: Turns::new(own),
+            cooldowns: Cooldowns::new(cooldown),
             clock,
             ahead: Duration::ZERO,
             open: HashMap::new(),
@@ -188,10 +194,13 @@ impl Shared {
             true => usize::MAX,
             false => most,
         };
-        let own = parts.identity.public_key();
+        let (own, cooldown) = (parts.identity.public_key(), parts.settings.cooldown);
         Shared {
             connections: Slots::new(limit(parts.settings.max_connections)),
-            handshakes: Slots::new(limit(parts.settings.max_handshakes)),
+            handshakes: Arrivals::new(
+                limit(parts.settings.max_handshakes),
+                limit(HANDSHAKES_OF_ADDRESS),
+            ),
             frame_limit: match parts.settings.breaks(Rule::NoLimit) {
                 true => u32::MAX,
                 false => parts.frame_limit,
@@ -204,7 +213,7 @@ impl Shared {
             threads: Slots::new(usize::MAX),
             ledger: parts.ledger,
             record: parts.record,
-            state: Mutex::new(State::new(node, own, parts.clock)),
+            state: Mutex::new(State::new(node, own, cooldown, parts.clock)),
             wakes,
             kept: Mutex::new(Vec::new()),
         }
@@ -310,9 +319,13 @@ impl Listed {
     /// # Errors
     ///
     /// Says if the node is ending, or there is no memory.
-    pub fn new(shared: &Arc<Shared>, stream: TcpStream, peer: Option<Key>) -> io::Result<Listed> {
+    pub fn new(
+        shared: &Arc<Shared>,
+        stream: impl Into<Arc<TcpStream>>,
+        peer: Option<Key>,
+    ) -> io::Result<Listed> {
+        let stream = stream.into();
         stream.set_nodelay(true)?;
-        let stream = Arc::new(stream);
         let id = listed(&mut shared.lock(), &stream, peer)?;
         let shared = Arc::clone(shared);
         Ok(Listed { stream, shared, id })

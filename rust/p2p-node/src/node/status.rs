@@ -31,7 +31,7 @@ fn line(shared: &Shared, address: &Ingress) -> String {
         gauges(shared, &state, address)
     };
     let line = line
-        .number("handshakes", shared.handshakes.taken() as u64)
+        .number("handshakes", shared.handshakes.waiting() as u64)
         .number("connections", shared.connections.taken() as u64)
         .number("threads", shared.threads() as u64);
     shared.counts.write(line).end()

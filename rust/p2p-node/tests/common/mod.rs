@@ -3,7 +3,7 @@
 #![allow(dead_code, missing_docs)]
 
 use p2p_directory::{Info, Ingress, Key};
-use p2p_node::handshake::Own;
+use p2p_node::handshake::{HandshakeError, NONCE_SIZE, Own};
 use p2p_node::identity::Identity;
 use p2p_node::sodium::Sodium;
 use p2p_node::wire::{Timed, read_frame, write_frame};
@@ -325,10 +325,23 @@ impl Running {
 
     /// Dials the node as the peer of a number, and returns the stream after the handshake.
     pub fn dial(&self, number: u8) -> TcpStream {
+        self.try_dial(number).unwrap()
+    }
+
+    /// The same, or why there was no handshake.
+    pub fn try_dial(&self, number: u8) -> Result<TcpStream, HandshakeError> {
         let stream = self.stream();
         let identity = identity(number);
         let own = own(&identity, NAMESPACE);
-        own.dial(&mut timed(&stream), &self.key).unwrap();
+        own.dial(&mut timed(&stream), &self.key)?;
+        Ok(stream)
+    }
+
+    /// Opens a stream and claims the key of a number, which isn't proved.
+    pub fn claim(&self, number: u8) -> TcpStream {
+        let mut stream = self.stream();
+        let claim = [&[7; NONCE_SIZE], key(number).as_ref()].concat();
+        stream.write_all(&claim).unwrap();
         stream
     }
 
