@@ -125,6 +125,16 @@ while read -r given _; do
 done < "$folder/pairs"
 echo 'a session of one pair of sizes is refused by the calls of each other one'
 
+# Whose code the archive has: as many functions of each library as docs/LICENCES.md lists, and no other library.
+if [ -f "$archives/libp2p_session.a" ]; then
+    nm -C "$archives/libp2p_session.a" | sed -n -E 's/^[0-9a-f]+ [tT] <?(p2p_)?([a-z0-9_]*).*/\1\2/p' |
+        sed -E -e 's/^p2p_.*/ours/' -e 's/^rattle_(alloc|realloc|dealloc)$/heap/' | sort | uniq -c | awk '{ print $1, $2 }' > "$folder/lines"
+    sed -n -E -e 's/^\| .*p2p_session.* \| ([0-9]+) \|.*/\1 ours/p' -e 's/^\| .*rattle_alloc.* \| ([0-9]+) \|.*/\1 heap/p' \
+        -e 's/^\| `(bytes|core|std[a-z_]*)` \| ([0-9]+) \|.*/\2 \1/p' docs/LICENCES.md | LC_ALL=C sort -k 2 > "$folder/told"
+    LC_ALL=C sort -k 2 "$folder/lines" | diff - "$folder/told" >&2 || fail 'docs/LICENCES.md lists other code than the archive has'
+    echo 'docs/LICENCES.md lists all code of the archive'
+fi
+
 # A host that was compiled for another interface doesn't link: the name with the hash is all that it lacks.
 refuses() {
     sed "$2" $table > "$folder/session.table"
