@@ -560,6 +560,35 @@ fn of_a_message_the_head_the_length_and_a_checksum_are_recorded() {
 }
 
 #[test]
+fn a_message_that_no_line_of_play_has_room_for_is_counted() {
+    let data = |length| {
+        let message = vec![7; length];
+        Payload::Data(Data {
+            channel: 0,
+            message,
+        })
+        .encode()
+    };
+    let mut setup = testing::setup(9);
+    setup.payload.max_data_length = 1 << 20;
+    let kept = Kept::default();
+    let recorder = Recorder::new(kept.clone(), 1 << 20);
+    let mut node = Node::new_recorded(&setup, recorder).expect("a node");
+    for length in [1000, 1 << 20] {
+        let received = node.receive(&data(length), Moment::EPOCH, testing::verify);
+        assert!(matches!(received, Received::Data { .. }), "{received:?}");
+    }
+    drop(node);
+    let bytes = kept.bytes();
+    let file = Scratch::of("long-message", &bytes);
+    let told = "3 calls, 2 answered as in the log, 1 without a command of play, not checked";
+    if let Some(output) = replayed_if_offered(&["--play"], &file.0) {
+        assert!(output.status.success(), "{}", said(&output));
+        assert!(said(&output).contains(told), "{}", said(&output));
+    }
+}
+
+#[test]
 fn a_frame_that_is_no_message_is_recorded_whole() {
     let infos: Vec<_> = (1..=5).map(|number| testing::info(number, 0)).collect();
     let short = Payload::Data(Data {

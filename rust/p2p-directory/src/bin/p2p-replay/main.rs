@@ -39,7 +39,8 @@ memory counts as not made, and isn't checked.
   --script       prints the calls as a script of `play`, with the replies that it expects: keys are
                  numbered in the order of their bytes, infos are signed anew
   --play         plays that script, and prints each reply that isn't as expected. It has no command
-                 for some calls, such as `check` and `get_peer_set`: these are counted
+                 for some calls, such as `check` and `get_peer_set`, and no line for a message above
+                 half a MiB: these are counted
   --unchecked N  fails if more than N calls weren't checked; without it, if one was refused for want
                  of memory
   --room BYTES   how many bytes a call of the library may ask for, in place of 268435456, for the

@@ -3,7 +3,7 @@
 use crate::fields::{Fields, NO_LIMITS, Outcome, infos};
 use crate::player::printed::{bit_vec, hexadecimal, info, infos as printed_infos, ingress, keys};
 use crate::player::printed::{option, or_none};
-use p2p_directory::record::{Call, Log};
+use p2p_directory::record::{Argument, Call, Log};
 use p2p_directory::testing::sign;
 use p2p_directory::{
     BitVec, Info, KEY_SIZE, Key, Moment, Payload, PayloadConfig, SIGNATURE_SIZE, Setup, Signature,
@@ -14,6 +14,9 @@ use std::time::Duration;
 
 /// The namespace of nodes of `play` whose settings have none.
 const NAMESPACE: &[u8] = b"rows";
+
+/// The length of the longest line that `play` reads, in bytes.
+const LONGEST_LINE: usize = 1 << 20;
 
 /// The lines of a script: each call of the log that `play` has a command for, and its reply.
 pub struct Script {
@@ -70,9 +73,10 @@ impl Script {
                 None => self.asked(name, &fields)?,
             },
         };
-        match told {
-            Some((command, reply)) => self.lines.extend([command, format!("= {reply}")]),
-            None => self.without_command += 1,
+        let lines = told.map(|(command, reply)| [command, format!("= {reply}")]);
+        match lines {
+            Some(lines) if !is_long_message(call, &lines) => self.lines.extend(lines),
+            _ => self.without_command += 1,
         }
         Ok(())
     }
@@ -347,6 +351,13 @@ impl Script {
         };
         format!("{} {}", keys(&self.all_numbered(peers)), option(next))
     }
+}
+
+// Whether the lines of a message are longer than `play` reads. A message changes nothing, so the
+// script does without it.
+fn is_long_message(call: &Call<'_>, lines: &[String]) -> bool {
+    let is_message = matches!(call.argument("frame"), Some(Argument::Message { .. }));
+    is_message && lines.iter().any(|line| line.len() > LONGEST_LINE)
 }
 
 // All keys of a call, those of infos in frames that decode among them.
