@@ -21,7 +21,7 @@ if [ "${1:-}" = --check ]; then
     for written in crates/p2p_session_c/src crates/p2p_session_c/proofs include/p2p_session.h \
         rust/p2p-directory-sys/src/exports.rs rust/p2p-directory-sys/src/exports \
         rust/p2p-directory/src/pairs.rs rust/p2p-directory/src/pairs rust/p2p-directory/src/record/calls.rs \
-        rust/p2p-directory/src/pair/recorded.rs rust/p2p-directory/src/pair/replay.rs; do
+        rust/p2p-directory/src/sized/session.rs rust/p2p-directory/src/sized/replay.rs; do
         diff -r "$written" "$root/$written"
     done
 fi

@@ -510,16 +510,16 @@ def declare(put, names, exports):
     put(f'{sources}/pairs.rs', RUST_PAIRS.format(head=RUST_WRITTEN) + ''.join(f"pub mod {pair['module']};\n" for pair in in_order))
     for place, pair in enumerate(others, 1):
         put(f"{sources}/pairs/{pair['module']}.rs", typed_pair(pair, names['pairs'][place][3]))
-    recorded.write(put, exports)
+    recorded.write(put, exports, [pair['module'] for pair in in_order])
 
 
 def typed_pair(names, said):
     """The module of the typed crate for a pair of sizes other than the first."""
     firsts = f" A key begins with {names['firsts']}." if names['all_firsts'] else ''
     first = wrapped(f"Keys of {names['key']} bytes and signatures of {names['signature']}: {said}{firsts}", '//! ')
-    # What examples name stands at the root, but for the key that begins with certain bytes.
-    key = '#[path = "../pair/first_key.rs"]' if firsts else '#[cfg(not(doctest))]\n#[path = "../pair/key.rs"]'
-    return TYPED_PAIR.format(first=first, head=RUST_WRITTEN, module=names['module'], key=key)
+    key = 'first_key' if firsts else 'plain_key'
+    return TYPED_PAIR.format(first=first, head=RUST_WRITTEN, module=names['module'], key=key, size=names['key'],
+                             signature=names['signature'], name=f"Keys{names['key']}_{names['signature']}")
 
 
 RUST_WRITTEN = 'Written by tools/exports.sh from tools/exports/session.table.'
@@ -727,15 +727,11 @@ TYPED_PAIR = """{first}
 
 use p2p_directory_sys::{module} as exports;
 
-{key}
-mod key;
-#[cfg(not(doctest))]
-#[path = "../pair/mod.rs"]
-mod pair;
-
 pub use crate::shared::*;
-#[cfg(not(doctest))]
-pub use pair::*;
+
+crate::keys::{key}!({module}, {size}, exports);
+crate::keys::signature!({module}, {signature});
+crate::keys::pair!({module}, {name}, exports::Session);
 """
 
 RUST_SESSION = """/// A session, in memory that is kept for it alone.

@@ -12,31 +12,51 @@ pub(crate) const CALLS: [CallForm; {count}] = [
 {forms}];
 """
 
-SESSION = """//! A session whose calls are recorded, if it has a recorder.
+SESSION = """//! The calls of a session, whatever sizes its keys have, and one whose calls are recorded.
 // Written by tools/exports.sh from tools/exports/session.table.
 
-use super::exports::{{self, KEY_SIZE, SIGNATURE_SIZE}};
+#[cfg(feature = "record")]
+use super::pair::{{Pair, Sealed}};
+#[cfg(feature = "record")]
 use crate::record::{{Recorder, Recording}};
+#[cfg(feature = "record")]
 use std::cell::RefCell;
 
+/// The calls of a session of the library.
+pub trait Calls: Sized + Send {{
+    fn new() -> Option<Self>;
+{signatures}}}
+
+/// The calls of a session, each made by the method of its name.
+macro_rules! made_by_methods {{
+    ($($session:ty),* $(,)?) => {{
+        $(
+            impl Calls for $session {{
+                #[inline]
+                fn new() -> Option<Self> {{
+                    <$session>::new()
+                }}
+
+{forwards}            }}
+        )*
+    }};
+}}
+
+made_by_methods! {{
+{sessions}}}
+
 /// A session, and the recorder of its calls.
-pub(crate) struct Session {{
-    session: exports::Session,
+#[cfg(feature = "record")]
+pub(crate) struct Recorded<P: Pair> {{
+    session: <P as Sealed>::Calls,
     recorder: RefCell<Option<Recorder>>,
 }}
 
-impl Session {{
-    /// A session with no node, or `None` if the allocation fails.
-    pub(crate) fn new() -> Option<Session> {{
-        Some(Session {{
-            session: exports::Session::new()?,
-            recorder: RefCell::new(None),
-        }})
-    }}
-
+#[cfg(feature = "record")]
+impl<P: Pair> Recorded<P> {{
     /// Records each call from now on.
     pub(crate) fn record(&self, mut recorder: Recorder) {{
-        recorder.begin(KEY_SIZE, SIGNATURE_SIZE);
+        recorder.begin(P::KEY_SIZE, P::SIGNATURE_SIZE);
         self.recorder.replace(Some(recorder));
     }}
 
@@ -58,6 +78,16 @@ impl Session {{
             recorder.end();
         }}
     }}
+}}
+
+#[cfg(feature = "record")]
+impl<P: Pair> Calls for Recorded<P> {{
+    fn new() -> Option<Recorded<P>> {{
+        Some(Recorded {{
+            session: <P as Sealed>::Calls::new()?,
+            recorder: RefCell::new(None),
+        }})
+    }}
 
 {methods}}}
 """
@@ -65,7 +95,8 @@ impl Session {{
 REPLAY = """//! Makes recorded calls anew, on another session.
 // Written by tools/exports.sh from tools/exports/session.table.
 
-use super::exports::Session;
+use super::pair::{{Pair, Sealed}};
+use super::session::Calls;
 use crate::record::{{Answer, Arguments, Call, MOST_ROOM, ReplayError}};
 
 /// A session on which the calls of a log are made anew.
@@ -75,13 +106,13 @@ use crate::record::{{Answer, Arguments, Call, MOST_ROOM, ReplayError}};
 /// ```
 /// assert!(p2p_directory::Replay::new().is_some());
 /// ```
-pub struct Replay {{
-    session: Session,
+pub struct Replay<P: Pair> {{
+    session: <P as Sealed>::Calls,
     // How many bytes a call may ask for.
     most: u64,
 }}
 
-impl Replay {{
+impl<P: Pair> Replay<P> {{
     /// A session with no node, or `None` if the allocation fails. It refuses a call that asks for
     /// more than [`MOST_ROOM`] bytes.
     ///
@@ -90,7 +121,7 @@ impl Replay {{
     /// ```
     /// assert!(p2p_directory::Replay::new().is_some());
     /// ```
-    pub fn new() -> Option<Replay> {{
+    pub fn new() -> Option<Replay<P>> {{
         Replay::with_room(MOST_ROOM)
     }}
 
@@ -103,9 +134,9 @@ impl Replay {{
     /// ```
     /// assert!(p2p_directory::Replay::with_room(1 << 30).is_some());
     /// ```
-    pub fn with_room(most: u64) -> Option<Replay> {{
+    pub fn with_room(most: u64) -> Option<Replay<P>> {{
         Some(Replay {{
-            session: Session::new()?,
+            session: Calls::new()?,
             most,
         }})
     }}
@@ -168,9 +199,9 @@ def calls(exports):
     return CALLS.format(count=len(own_calls(exports)), forms=forms)
 
 
-def session(exports):
-    """The session that records, with the methods of the one that doesn't."""
-    methods = []
+def session(exports, pairs):
+    """The calls of all sessions, and the session that records, with the methods of the one that doesn't."""
+    methods, signatures, forwards = [], '', ''
     for number, (method, params, result, _, _) in enumerate(own_calls(exports), 1):
         own = given(params)
         taken = ''.join(f', {p.name}: {p.text}' for p in own)
@@ -184,8 +215,11 @@ def session(exports):
         out = next((p.name for p in own if p.kind == 'mut'), None)
         written = out or '&[]'
         told = '|entry| {\n' + ''.join(f'                {line}\n' for line in lines) + '            }' if lines else '|_| ()'
-        methods.append(f"""{many}    #[inline]
-    pub(crate) fn {method}(&self{taken}) -> {result} {{
+        signatures += f"{many}    fn {method}(&self{taken}) -> {result};\n"
+        forwards += f"                #[inline]\n                fn {method}(&self{taken}) -> {result} {{\n" \
+                    f"                    <$session>::{method}(self{', ' if passed else ''}{passed})\n                }}\n\n"
+        methods.append(f"""    #[inline]
+    fn {method}(&self{taken}) -> {result} {{
         let answer = self.session.{method}({passed});
         if let Some(recorder) = self.recorder.borrow_mut().as_mut() {{
             recorder.call({number}, answer, {written}, {told});
@@ -193,7 +227,8 @@ def session(exports):
         answer
     }}
 """)
-    return SESSION.format(methods='\n'.join(methods))
+    sessions = '    p2p_directory_sys::Session,\n' + ''.join(f'    p2p_directory_sys::{pair}::Session,\n' for pair in pairs)
+    return SESSION.format(methods='\n'.join(methods), signatures=signatures, forwards=forwards.rstrip('\n') + '\n', sessions=sessions)
 
 
 def replay(exports):
@@ -211,8 +246,9 @@ def replay(exports):
     return REPLAY.format(arms=arms)
 
 
-def write(put, exports):
+def write(put, exports, pairs):
+    """Writes them, given the modules of the pairs of sizes but the first."""
     sources = 'rust/p2p-directory/src'
     put(f'{sources}/record/calls.rs', calls(exports))
-    put(f'{sources}/pair/recorded.rs', session(exports))
-    put(f'{sources}/pair/replay.rs', replay(exports))
+    put(f'{sources}/sized/session.rs', session(exports, pairs))
+    put(f'{sources}/sized/replay.rs', replay(exports))

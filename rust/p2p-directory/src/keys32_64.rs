@@ -1,10 +1,7 @@
 //! Keys of 32 bytes and signatures of 64, as of ed25519: what stands at the root of the crate.
 
-use p2p_directory_sys as exports;
+pub use crate::shared::*;
 
-#[path = "pair/key.rs"]
-mod key;
-#[path = "pair/mod.rs"]
-mod pair;
-
-pub use pair::*;
+crate::keys::plain_key!(keys32_64, 32, p2p_directory_sys);
+crate::keys::signature!(keys32_64, 64);
+crate::keys::pair!(keys32_64, Keys32_64, p2p_directory_sys::Session);

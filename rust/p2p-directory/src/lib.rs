@@ -29,7 +29,8 @@
 //! Keys have 32 bytes and signatures 64, as those of ed25519. The modules [`keys33_64`],
 //! [`keys48_96`] and [`keys96_48`] have the same names for keys and signatures of other sizes, and
 //! a host names one of them in place of the root. Types that don't depend on the sizes are the same
-//! in all.
+//! in all. The others are aliases of those in [`sized`], which are generic: [`sized::Pair`] shows
+//! code for any sizes.
 //!
 //! ```
 //! use p2p_directory::keys33_64::{Config, Directory, Info, Ingress, Key, Moment, Signature};
@@ -105,8 +106,6 @@
 //! ```
 
 #![forbid(unsafe_code)]
-// The files of a pair of sizes are those of each other pair.
-#![allow(clippy::duplicate_mod)]
 
 mod answer;
 mod codec;
@@ -114,13 +113,15 @@ mod config;
 mod data;
 mod error;
 mod ingress;
-mod keys32_64;
+mod keys;
+pub mod keys32_64;
 mod memory;
 mod moment;
 mod pairs;
 #[cfg(feature = "record")]
 pub mod record;
 mod shared;
+pub mod sized;
 mod sizes;
 mod status;
 mod text;
@@ -137,8 +138,8 @@ pub use keys32_64::Replay;
 #[cfg(any(test, feature = "testing"))]
 pub use keys32_64::testing;
 pub use keys32_64::{
-    Dialable, Directory, Info, InfoVerifier, Judged, KEY_SIZE, Key, Metadata, Node, OrderedSet,
-    Payload, PeerSetUpdate, Question, Questions, QuestionsIter, ReceiveError, Received,
+    Dialable, Directory, Info, InfoVerifier, Judged, KEY_SIZE, Key, Keys32_64, Metadata, Node,
+    OrderedSet, Payload, PeerSetUpdate, Question, Questions, QuestionsIter, ReceiveError, Received,
     ReleaseError, Reservation, SIGNATURE_SIZE, Setup, Signature, Tracked, TrackedPeers,
     max_gossip_size,
 };

@@ -8,8 +8,10 @@
 mod corpus;
 #[path = "model.rs"]
 mod model;
+mod session_tests;
 #[path = "spoilt_frames.rs"]
 mod spoilt_frames;
 mod suite;
 
 use p2p_directory::keys33_64 as pair;
+use p2p_directory_sys::keys33_64 as exports;

@@ -3,6 +3,8 @@
 // These files are also test programs of their own.
 #![allow(clippy::duplicate_mod)]
 
+mod session_tests;
 mod suite;
 
 use p2p_directory::keys96_48 as pair;
+use p2p_directory_sys::keys96_48 as exports;

@@ -7,12 +7,8 @@
 
 use p2p_directory_sys::keys33_64 as exports;
 
-#[path = "../pair/first_key.rs"]
-mod key;
-#[cfg(not(doctest))]
-#[path = "../pair/mod.rs"]
-mod pair;
-
 pub use crate::shared::*;
-#[cfg(not(doctest))]
-pub use pair::*;
+
+crate::keys::first_key!(keys33_64, 33, exports);
+crate::keys::signature!(keys33_64, 64);
+crate::keys::pair!(keys33_64, Keys33_64, exports::Session);

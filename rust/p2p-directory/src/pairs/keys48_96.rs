@@ -6,13 +6,8 @@
 
 use p2p_directory_sys::keys48_96 as exports;
 
-#[cfg(not(doctest))]
-#[path = "../pair/key.rs"]
-mod key;
-#[cfg(not(doctest))]
-#[path = "../pair/mod.rs"]
-mod pair;
-
 pub use crate::shared::*;
-#[cfg(not(doctest))]
-pub use pair::*;
+
+crate::keys::plain_key!(keys48_96, 48, exports);
+crate::keys::signature!(keys48_96, 96);
+crate::keys::pair!(keys48_96, Keys48_96, exports::Session);

@@ -6,13 +6,8 @@
 
 use p2p_directory_sys::keys96_48 as exports;
 
-#[cfg(not(doctest))]
-#[path = "../pair/key.rs"]
-mod key;
-#[cfg(not(doctest))]
-#[path = "../pair/mod.rs"]
-mod pair;
-
 pub use crate::shared::*;
-#[cfg(not(doctest))]
-pub use pair::*;
+
+crate::keys::plain_key!(keys96_48, 96, exports);
+crate::keys::signature!(keys96_48, 48);
+crate::keys::pair!(keys96_48, Keys96_48, exports::Session);

@@ -1,7 +1,7 @@
 //! Calls about one peer, and queries of what they changed, with enough memory.
 
-use super::super::key::KEY_SIZE;
 use super::given::{asked, info, infos, key, keys, session, tracking};
+use crate::pair::KEY_SIZE;
 use p2p_directory_sys::NONE;
 
 #[test]

@@ -1,8 +1,8 @@
 //! Calls about sets, and queries of them, with enough memory.
 
-use super::super::exports::Session;
-use super::super::key::KEY_SIZE;
 use super::given::{asked, infos, key, keys, session, tracking};
+use crate::exports::Session;
+use crate::pair::KEY_SIZE;
 use p2p_directory_sys::NONE;
 
 fn numbers(numbers: &[u64]) -> Vec<u8> {

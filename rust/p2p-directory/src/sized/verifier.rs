@@ -1,10 +1,9 @@
 //! Infos that are validated without a directory.
 
 use super::info::Info;
-use super::key::Key;
 use super::node::{Node, Received, Setup};
+use super::pair::{Pair, Private};
 use super::payload::{greeting_of, reply_of};
-use super::signature::{SIGNATURE_SIZE, Signature};
 use super::verification::Question;
 use crate::config::{Config, PayloadConfig};
 use crate::error::{SetupError, ValidateError};
@@ -36,12 +35,12 @@ use std::time::Duration;
 /// # Ok::<(), Box<dyn std::error::Error>>(())
 /// ```
 #[derive(Debug)]
-pub struct InfoVerifier {
+pub struct InfoVerifier<P: Pair> {
     // It has no sets, so no info is kept.
-    node: Mutex<Node>,
+    node: Mutex<Node<P>>,
 }
 
-impl Info {
+impl<P: Pair> Info<P> {
     /// Creates a verifier of infos for the peer with the key `me`. It accepts at most
     /// `peer_gossip_max_count` infos at a time, with timestamps at most `synchrony_bound` ahead,
     /// signed in this namespace.
@@ -63,11 +62,11 @@ impl Info {
     /// # Ok::<(), SetupError>(())
     /// ```
     pub fn verifier(
-        me: Key,
+        me: P::Key,
         peer_gossip_max_count: usize,
         synchrony_bound: Duration,
         namespace: &[u8],
-    ) -> Result<InfoVerifier, SetupError> {
+    ) -> Result<InfoVerifier<P>, SetupError> {
         // Its address and its info are never used: the node only has the key and the limits.
         let setup = Setup {
             bootstrappers: Vec::new(),
@@ -75,7 +74,7 @@ impl Info {
                 ingress: Ingress::Socket(SocketAddr::from((Ipv4Addr::UNSPECIFIED, 0))),
                 timestamp: 0,
                 public_key: me,
-                signature: Signature([0; SIGNATURE_SIZE]),
+                signature: P::Signature::filled(|_| ()),
             },
             cfg: Config {
                 allow_private_ips: false,
@@ -100,7 +99,7 @@ impl Info {
     }
 }
 
-impl InfoVerifier {
+impl<P: Pair> InfoVerifier<P> {
     /// Checks that a list of infos is valid at the time `now`, as a node checks that of a frame
     /// with [`Payload::Peers`](super::Payload::Peers).
     ///
@@ -132,8 +131,8 @@ impl InfoVerifier {
     pub fn validate(
         &self,
         now: Moment,
-        infos: &[Info],
-        verify: impl FnMut(Question<'_>) -> bool,
+        infos: &[Info<P>],
+        verify: impl FnMut(Question<'_, P>) -> bool,
     ) -> Result<(), ValidateError> {
         self.judge(&reply_of(infos)?, now, verify)
     }
@@ -166,8 +165,8 @@ impl InfoVerifier {
     pub fn validate_info(
         &self,
         now: Moment,
-        info: &Info,
-        verify: impl FnMut(Question<'_>) -> bool,
+        info: &Info<P>,
+        verify: impl FnMut(Question<'_, P>) -> bool,
     ) -> Result<(), ValidateError> {
         self.judge(&greeting_of(info)?, now, verify)
     }
@@ -176,7 +175,7 @@ impl InfoVerifier {
         &self,
         frame: &[u8],
         now: Moment,
-        verify: impl FnMut(Question<'_>) -> bool,
+        verify: impl FnMut(Question<'_, P>) -> bool,
     ) -> Result<(), ValidateError> {
         let questions = self.node().check(frame, now)?;
         let judged = questions.judged_by(verify);
@@ -190,7 +189,7 @@ impl InfoVerifier {
     }
 
     // Each critical section leaves the node consistent, so a poisoned lock can be used.
-    fn node(&self) -> MutexGuard<'_, Node> {
+    fn node(&self) -> MutexGuard<'_, Node<P>> {
         self.node.lock().unwrap_or_else(PoisonError::into_inner)
     }
 }

@@ -1,15 +1,16 @@
 //! Signed addresses of peers.
 
-use super::key::{KEY_SIZE, Key};
-use super::signature::{SIGNATURE_SIZE, Signature};
+use super::pair::{Bytes, Pair, Private};
 use super::verification::Question;
 use crate::codec::{MAX_VARINT_SIZE, ReadError, Reader, varint_size, write_length, write_varint};
-use crate::error::{CodecError, OutOfMemory};
+use crate::error::{CodecError, OutOfMemory, What};
 use crate::ingress::Ingress;
 use std::fmt;
 
 /// The minimum encoded size of an info: that of a name of one byte and a timestamp of one byte.
-pub(crate) const MIN_INFO_SIZE: usize = 5 + 1 + KEY_SIZE + SIGNATURE_SIZE;
+pub(crate) const fn min_info_size<P: Pair>() -> usize {
+    5 + 1 + P::KEY_SIZE + P::SIGNATURE_SIZE
+}
 
 /// The address at which a peer can be dialled, a timestamp, and the peer's signature over both.
 ///
@@ -27,19 +28,19 @@ pub(crate) const MIN_INFO_SIZE: usize = 5 + 1 + KEY_SIZE + SIGNATURE_SIZE;
 /// assert_eq!(Info::decode(&info.encode()), Ok(info));
 /// ```
 #[derive(Clone, Debug, PartialEq, Eq, Hash)]
-pub struct Info {
+pub struct Info<P: Pair> {
     /// The address at which the peer can be dialled.
     pub ingress: Ingress,
     /// The time since when it can be dialled there, in milliseconds since the Unix epoch. Of two
     /// infos, the one with the greater timestamp is newer.
     pub timestamp: u64,
     /// The key of the peer.
-    pub public_key: Key,
+    pub public_key: P::Key,
     /// Its signature over ingress and timestamp, in a namespace.
-    pub signature: Signature,
+    pub signature: P::Signature,
 }
 
-impl Info {
+impl<P: Pair> Info<P> {
     /// Creates an info with the signature that `sign` returns. It is called once, with the
     /// namespace and the [signed bytes](Info::signed_bytes).
     ///
@@ -60,12 +61,12 @@ impl Info {
     /// assert_eq!(info.timestamp, 0);
     /// ```
     pub fn sign(
-        public_key: Key,
+        public_key: P::Key,
         namespace: &[u8],
         ingress: impl Into<Ingress>,
         timestamp: u64,
-        sign: impl FnOnce(&[u8], &[u8]) -> Signature,
-    ) -> Info {
+        sign: impl FnOnce(&[u8], &[u8]) -> P::Signature,
+    ) -> Info<P> {
         let ingress = ingress.into();
         let signature = sign(namespace, &signed_bytes(&ingress, timestamp));
         Info {
@@ -108,7 +109,7 @@ impl Info {
     /// let info = Info::sign(Key([1; 32]), b"net", ingress, 1000, |_, _| Signature([1; 64]));
     /// assert!(info.verify(b"net", |question| question.signature.0[..32] == question.public_key.0));
     /// ```
-    pub fn verify(&self, namespace: &[u8], verify: impl FnOnce(Question<'_>) -> bool) -> bool {
+    pub fn verify(&self, namespace: &[u8], verify: impl FnOnce(Question<'_, P>) -> bool) -> bool {
         verify(Question {
             public_key: self.public_key,
             namespace,
@@ -126,7 +127,7 @@ impl Info {
     /// ```
     #[must_use]
     pub const fn max_encode_size() -> usize {
-        Ingress::MAX_ENCODE_SIZE + 10 + KEY_SIZE + SIGNATURE_SIZE
+        Ingress::MAX_ENCODE_SIZE + 10 + P::KEY_SIZE + P::SIGNATURE_SIZE
     }
 
     /// The encoding of the info.
@@ -157,7 +158,7 @@ impl Info {
     /// ```
     #[must_use]
     pub fn encode_size(&self) -> usize {
-        self.ingress.encode_size() + varint_size(self.timestamp) + KEY_SIZE + SIGNATURE_SIZE
+        self.ingress.encode_size() + varint_size(self.timestamp) + P::KEY_SIZE + P::SIGNATURE_SIZE
     }
 
     /// Decodes the info that these bytes encode.
@@ -172,7 +173,7 @@ impl Info {
     /// # use p2p_directory::{CodecError, Info};
     /// assert_eq!(Info::decode(&[]), Err(CodecError::EndOfBuffer));
     /// ```
-    pub fn decode(bytes: &[u8]) -> Result<Info, CodecError> {
+    pub fn decode(bytes: &[u8]) -> Result<Info<P>, CodecError> {
         let mut reader = Reader::new(bytes);
         let info = Info::read(&mut reader).map_err(ReadError::fault)?;
         reader.end()?;
@@ -189,22 +190,22 @@ impl Info {
     pub(crate) fn write(&self, out: &mut Vec<u8>) {
         self.ingress.write(out);
         write_varint(out, self.timestamp);
-        out.extend_from_slice(self.public_key.as_bytes());
-        out.extend_from_slice(&self.signature.0);
+        out.extend_from_slice(self.public_key.as_ref());
+        out.extend_from_slice(self.signature.as_ref());
     }
 
-    pub(crate) fn read(reader: &mut Reader<'_>) -> Result<Info, ReadError> {
+    pub(crate) fn read(reader: &mut Reader<'_>) -> Result<Info<P>, ReadError> {
         Ok(Info {
             ingress: Ingress::read(reader)?,
             timestamp: reader.varint()?,
-            public_key: Key::read(reader)?,
-            signature: Signature::read(reader)?,
+            public_key: read_key::<P>(reader)?,
+            signature: read_signature::<P>(reader)?,
         })
     }
 }
 
 /// Formats an info in one line: the key, the ingress, and the timestamp in milliseconds.
-impl fmt::Display for Info {
+impl<P: Pair> fmt::Display for Info<P> {
     fn fmt(&self, f: &mut fmt::Formatter<'_>) -> fmt::Result {
         let Info {
             ingress,
@@ -216,6 +217,17 @@ impl fmt::Display for Info {
     }
 }
 
+/// Reads a key, and refuses bytes that are none.
+pub(crate) fn read_key<P: Pair>(reader: &mut Reader<'_>) -> Result<P::Key, CodecError> {
+    let key = P::Key::of_bytes(reader.take(P::KEY_SIZE)?);
+    key.ok_or(CodecError::Invalid(What::Key))
+}
+
+/// Reads a signature. Any bytes are one.
+pub(crate) fn read_signature<P: Pair>(reader: &mut Reader<'_>) -> Result<P::Signature, CodecError> {
+    Ok(P::Signature::of_library(reader.take(P::SIGNATURE_SIZE)?))
+}
+
 fn signed_bytes(ingress: &Ingress, timestamp: u64) -> Vec<u8> {
     let timestamp = timestamp.to_be_bytes();
     let mut out = Vec::with_capacity(ingress.encode_size() + timestamp.len());
@@ -225,7 +237,7 @@ fn signed_bytes(ingress: &Ingress, timestamp: u64) -> Vec<u8> {
 }
 
 /// Appends the encoding of a list of infos.
-pub(crate) fn write_infos(out: &mut Vec<u8>, infos: &[Info]) {
+pub(crate) fn write_infos<P: Pair>(out: &mut Vec<u8>, infos: &[Info<P>]) {
     write_length(out, infos.len());
     for info in infos {
         info.write(out);
@@ -233,7 +245,10 @@ pub(crate) fn write_infos(out: &mut Vec<u8>, infos: &[Info]) {
 }
 
 /// Appends the encoding of a list of infos, unless an allocation fails.
-pub(crate) fn try_write_infos(out: &mut Vec<u8>, infos: &[Info]) -> Result<(), OutOfMemory> {
+pub(crate) fn try_write_infos<P: Pair>(
+    out: &mut Vec<u8>,
+    infos: &[Info<P>],
+) -> Result<(), OutOfMemory> {
     let size: usize = infos.iter().map(Info::encode_size).sum();
     out.try_reserve_exact(MAX_VARINT_SIZE + size)?;
     write_infos(out, infos);
@@ -242,7 +257,10 @@ pub(crate) fn try_write_infos(out: &mut Vec<u8>, infos: &[Info]) -> Result<(), O
 
 /// Decodes a list of infos, at most so many. It allocates for the infos that are there, not for the
 /// number that is announced.
-pub(crate) fn read_infos(reader: &mut Reader<'_>, most: u64) -> Result<Vec<Info>, ReadError> {
+pub(crate) fn read_infos<P: Pair>(
+    reader: &mut Reader<'_>,
+    most: u64,
+) -> Result<Vec<Info<P>>, ReadError> {
     let count = reader.length()?;
     if count > most {
         return Err(CodecError::InvalidLength(count).into());

@@ -1,9 +1,9 @@
 //! Frames: the questions about them and the results, of sessions with keys 9 and 8.
 
-use super::super::exports::Session;
-use super::super::key::KEY_SIZE;
-use super::super::signature::SIGNATURE_SIZE;
 use super::given::{asked, info, infos, key, session, tracking};
+use crate::exports::Session;
+use crate::pair::KEY_SIZE;
+use crate::pair::SIGNATURE_SIZE;
 use p2p_directory_sys::{BAD_VERDICTS, NO_ROOM};
 
 // The minimum length of a buffer for `receive`.

@@ -1,7 +1,7 @@
 //! The signatures of a frame, which may be verified without its node.
 
-use super::key::Key;
-use super::signature::Signature;
+use super::info::read_signature;
+use super::pair::{Pair, Private};
 use crate::answer::OWN;
 use crate::codec::{ReadError, Reader};
 use crate::error::{CodecError, WrongVerdictsError};
@@ -9,6 +9,7 @@ use crate::memory::zeros;
 use crate::moment::Moment;
 use std::error;
 use std::fmt;
+use std::marker::PhantomData;
 
 /// A signature that has to be verified: whether the key made it over the namespace and the message.
 ///
@@ -39,15 +40,15 @@ use std::fmt;
 /// assert!(!testing::verify(Question { message: b"hullo", ..question }));
 /// ```
 #[derive(Clone, Copy, Debug, PartialEq, Eq, Hash)]
-pub struct Question<'q> {
+pub struct Question<'q, P: Pair> {
     /// The key that has to have made the signature.
-    pub public_key: Key,
+    pub public_key: P::Key,
     /// The namespace in which infos are signed.
     pub namespace: &'q [u8],
     /// The signed bytes.
     pub message: &'q [u8],
     /// The signature.
-    pub signature: Signature,
+    pub signature: P::Signature,
 }
 
 /// The signatures of a frame that have to be verified, returned by
@@ -71,7 +72,7 @@ pub struct Question<'q> {
 /// # Ok::<(), Box<dyn std::error::Error>>(())
 /// ```
 #[derive(Debug)]
-pub struct Questions<'f> {
+pub struct Questions<'f, P: Pair> {
     frame: &'f [u8],
     now: Moment,
     node: u64,
@@ -82,6 +83,7 @@ pub struct Questions<'f> {
     count: usize,
     // A byte for each info of the frame, including those without a question.
     verdicts: Vec<u8>,
+    pair: PhantomData<P>,
 }
 
 /// An iterator over the questions of a frame.
@@ -98,8 +100,8 @@ pub struct Questions<'f> {
 /// # Ok::<(), OutOfMemory>(())
 /// ```
 #[derive(Clone, Debug)]
-pub struct QuestionsIter<'q> {
-    asked: Asked<'q>,
+pub struct QuestionsIter<'q, P: Pair> {
+    asked: Asked<'q, P>,
     // How many questions are left.
     count: usize,
 }
@@ -118,11 +120,12 @@ pub struct QuestionsIter<'q> {
 /// # Ok::<(), Box<dyn std::error::Error>>(())
 /// ```
 #[derive(Debug)]
-pub struct Judged<'f> {
+pub struct Judged<'f, P: Pair> {
     pub(crate) frame: &'f [u8],
     pub(crate) now: Moment,
     pub(crate) node: u64,
     pub(crate) verdicts: Vec<u8>,
+    pair: PhantomData<P>,
 }
 
 /// A frame was passed to another node than the one that checked it. The error gives it back, and
@@ -142,51 +145,62 @@ pub struct Judged<'f> {
 /// ```
 #[derive(Debug)]
 #[non_exhaustive]
-pub struct ReceiveError<'f> {
+pub struct ReceiveError<'f, P: Pair> {
     /// The frame, with its verification results.
-    pub judged: Judged<'f>,
+    pub judged: Judged<'f, P>,
 }
 
 /// An iterator over the questions that the library wrote one after the other.
 #[derive(Clone, Debug)]
-pub(crate) struct Asked<'q> {
+pub(crate) struct Asked<'q, P: Pair> {
     namespace: &'q [u8],
     bytes: &'q [u8],
+    pair: PhantomData<P>,
+}
+
+impl<'q, P: Pair> Asked<'q, P> {
+    fn new(namespace: &'q [u8], bytes: &'q [u8]) -> Asked<'q, P> {
+        Asked {
+            namespace,
+            bytes,
+            pair: PhantomData,
+        }
+    }
 }
 
 /// What the library writes about a frame without infos.
 pub(crate) const NOTHING_TOLD: [u8; 8] = [0; 8];
 
 /// Reads what the library wrote about a frame: how many infos it has, and the questions.
-pub(crate) fn read_told<'q>(
+pub(crate) fn read_told<'q, P: Pair>(
     namespace: &'q [u8],
     told: &'q [u8],
-) -> Result<(usize, Asked<'q>), CodecError> {
+) -> Result<(usize, Asked<'q, P>), CodecError> {
     let mut reader = Reader::new(told);
     let infos = reader.number()? as usize;
     let bytes = reader.rest();
-    Ok((infos, Asked { namespace, bytes }))
+    Ok((infos, Asked::new(namespace, bytes)))
 }
 
 #[inline]
-fn read_question<'q>(
+fn read_question<'q, P: Pair>(
     namespace: &'q [u8],
     reader: &mut Reader<'q>,
-) -> Result<Question<'q>, CodecError> {
+) -> Result<Question<'q, P>, CodecError> {
     let length = reader.number()? as usize;
     Ok(Question {
-        public_key: Key::of_library(reader.array()?),
+        public_key: P::Key::of_library(reader.take(P::KEY_SIZE)?),
         namespace,
         message: reader.take(length)?,
-        signature: Signature::read(reader)?,
+        signature: read_signature::<P>(reader)?,
     })
 }
 
-impl<'q> Iterator for Asked<'q> {
-    type Item = Question<'q>;
+impl<'q, P: Pair> Iterator for Asked<'q, P> {
+    type Item = Question<'q, P>;
 
     #[inline]
-    fn next(&mut self) -> Option<Question<'q>> {
+    fn next(&mut self) -> Option<Question<'q, P>> {
         if self.bytes.is_empty() {
             return None;
         }
@@ -199,10 +213,10 @@ impl<'q> Iterator for Asked<'q> {
 
 /// Writes the verification result of each question, in order, up to the first false one. The others
 /// stay as they are.
-pub(crate) fn write_verdicts(
+pub(crate) fn write_verdicts<P: Pair>(
     verdicts: &mut [u8],
-    questions: Asked<'_>,
-    mut verify: impl FnMut(Question<'_>) -> bool,
+    questions: Asked<'_, P>,
+    mut verify: impl FnMut(Question<'_, P>) -> bool,
 ) {
     for (verdict, question) in verdicts.iter_mut().zip(questions) {
         let is_right = verify(question);
@@ -213,7 +227,7 @@ pub(crate) fn write_verdicts(
     }
 }
 
-impl<'f> Questions<'f> {
+impl<'f, P: Pair> Questions<'f, P> {
     // The questions of the library about a frame that a node of this namespace received at this
     // time.
     pub(crate) fn new(
@@ -222,8 +236,8 @@ impl<'f> Questions<'f> {
         node: u64,
         namespace: &[u8],
         told: &[u8],
-    ) -> Result<Questions<'f>, ReadError> {
-        let (infos, asked) = read_told(namespace, told)?;
+    ) -> Result<Questions<'f, P>, ReadError> {
+        let (infos, asked) = read_told::<P>(namespace, told)?;
         let mut bytes = Vec::new();
         bytes.try_reserve_exact(namespace.len() + asked.bytes.len())?;
         bytes.extend_from_slice(namespace);
@@ -236,6 +250,7 @@ impl<'f> Questions<'f> {
             bytes,
             count: asked.count(),
             verdicts: zeros(infos)?,
+            pair: PhantomData,
         })
     }
 
@@ -303,10 +318,10 @@ impl<'f> Questions<'f> {
     /// # Ok::<(), OutOfMemory>(())
     /// ```
     #[must_use]
-    pub fn iter(&self) -> QuestionsIter<'_> {
+    pub fn iter(&self) -> QuestionsIter<'_, P> {
         let (namespace, bytes) = self.bytes.split_at(self.namespace);
         QuestionsIter {
-            asked: Asked { namespace, bytes },
+            asked: Asked::new(namespace, bytes),
             count: self.count,
         }
     }
@@ -333,7 +348,7 @@ impl<'f> Questions<'f> {
     pub fn judged(
         self,
         verdicts: impl IntoIterator<Item = bool>,
-    ) -> Result<Judged<'f>, WrongVerdictsError> {
+    ) -> Result<Judged<'f, P>, WrongVerdictsError> {
         let mut written = self.verdicts;
         let (mut given, mut are_all_right) = (0, true);
         for is_right in verdicts {
@@ -352,6 +367,7 @@ impl<'f> Questions<'f> {
             now: self.now,
             node: self.node,
             verdicts: written,
+            pair: PhantomData,
         })
     }
 
@@ -374,33 +390,34 @@ impl<'f> Questions<'f> {
     /// # Ok::<(), OutOfMemory>(())
     /// ```
     #[must_use]
-    pub fn judged_by(self, verify: impl FnMut(Question<'_>) -> bool) -> Judged<'f> {
+    pub fn judged_by(self, verify: impl FnMut(Question<'_, P>) -> bool) -> Judged<'f, P> {
         let mut verdicts = self.verdicts;
         let (namespace, bytes) = self.bytes.split_at(self.namespace);
-        write_verdicts(&mut verdicts, Asked { namespace, bytes }, verify);
+        write_verdicts(&mut verdicts, Asked::new(namespace, bytes), verify);
         Judged {
             frame: self.frame,
             now: self.now,
             node: self.node,
             verdicts,
+            pair: PhantomData,
         }
     }
 }
 
-impl<'q> IntoIterator for &'q Questions<'_> {
-    type Item = Question<'q>;
-    type IntoIter = QuestionsIter<'q>;
+impl<'q, P: Pair> IntoIterator for &'q Questions<'_, P> {
+    type Item = Question<'q, P>;
+    type IntoIter = QuestionsIter<'q, P>;
 
-    fn into_iter(self) -> QuestionsIter<'q> {
+    fn into_iter(self) -> QuestionsIter<'q, P> {
         self.iter()
     }
 }
 
-impl<'q> Iterator for QuestionsIter<'q> {
-    type Item = Question<'q>;
+impl<'q, P: Pair> Iterator for QuestionsIter<'q, P> {
+    type Item = Question<'q, P>;
 
     #[inline]
-    fn next(&mut self) -> Option<Question<'q>> {
+    fn next(&mut self) -> Option<Question<'q, P>> {
         let question = self.asked.next()?;
         self.count -= 1;
         Some(question)
@@ -411,12 +428,12 @@ impl<'q> Iterator for QuestionsIter<'q> {
     }
 }
 
-impl ExactSizeIterator for QuestionsIter<'_> {}
+impl<P: Pair> ExactSizeIterator for QuestionsIter<'_, P> {}
 
-impl fmt::Display for ReceiveError<'_> {
+impl<P: Pair> fmt::Display for ReceiveError<'_, P> {
     fn fmt(&self, f: &mut fmt::Formatter<'_>) -> fmt::Result {
         f.write_str("the frame was checked by another node")
     }
 }
 
-impl error::Error for ReceiveError<'_> {}
+impl<P: Pair> error::Error for ReceiveError<'_, P> {}

@@ -1,8 +1,9 @@
 //! The arguments of sessions: the setting of the worked examples, with keys of equal bytes.
 
-use super::super::exports::Session;
-use super::super::key::{KEY_SIZE, LEAST_FIRST};
-use super::super::signature::SIGNATURE_SIZE;
+use super::LEAST_FIRST;
+use crate::exports::Session;
+use crate::pair::KEY_SIZE;
+use crate::pair::SIGNATURE_SIZE;
 
 /// The key of such bytes, but the first if a key can't begin with each byte.
 pub(super) fn key(byte: u8) -> [u8; KEY_SIZE] {

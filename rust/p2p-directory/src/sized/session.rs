@@ -1,28 +1,238 @@
-//! A session whose calls are recorded, if it has a recorder.
+//! The calls of a session, whatever sizes its keys have, and one whose calls are recorded.
 // Written by tools/exports.sh from tools/exports/session.table.
 
-use super::exports::{self, KEY_SIZE, SIGNATURE_SIZE};
+#[cfg(feature = "record")]
+use super::pair::{Pair, Sealed};
+#[cfg(feature = "record")]
 use crate::record::{Recorder, Recording};
+#[cfg(feature = "record")]
 use std::cell::RefCell;
 
+/// The calls of a session of the library.
+pub trait Calls: Sized + Send {
+    fn new() -> Option<Self>;
+    #[allow(clippy::too_many_arguments)]
+    fn init(&self, allow_private_ips: bool, allow_dns: bool, max_sets: u64, dial_fail_limit: u64, cooldown_seconds: u64, cooldown_nanos: u32, block_seconds: u64, block_nanos: u32, max_bit_vec: u64, max_peers: u64, max_data_length: u64, peer_gossip_max_count: u64, bound_seconds: u64, bound_nanos: u32, namespace: &[u8], bootstrappers: &[u8], myself: &[u8]) -> u64;
+    fn track(&self, index: u64, primary: &[u8], secondary: &[u8], torn: &mut [u8]) -> u64;
+    fn track_room(&self) -> u64;
+    fn dial(&self, peer: &[u8], seconds: u64, nanos: u32, draw_seconds: u64, draw_nanos: u32) -> u64;
+    fn listen(&self, peer: &[u8], seconds: u64, nanos: u32, draw_seconds: u64, draw_nanos: u32) -> u64;
+    fn reservation(&self, peer: &[u8], out: &mut [u8]) -> u64;
+    fn connect(&self, peer: &[u8], dialer: bool) -> u64;
+    fn release(&self, peer: &[u8]) -> u64;
+    fn update_peers(&self, infos: &[u8]) -> u64;
+    fn block(&self, peer: &[u8], seconds: u64, nanos: u32) -> u64;
+    fn unblock_expired(&self, seconds: u64, nanos: u32) -> u64;
+    fn forget_cooled(&self, seconds: u64, nanos: u32) -> u64;
+    fn next_unblock(&self, out: &mut [u8]) -> u64;
+    fn blocked_peers(&self, seconds: u64, nanos: u32, out: &mut [u8]) -> u64;
+    fn status(&self, peer: &[u8]) -> u64;
+    fn get_peer_set(&self, index: u64, out: &mut [u8]) -> u64;
+    fn latest_set_index(&self, out: &mut [u8]) -> u64;
+    fn latest_update(&self, out: &mut [u8]) -> u64;
+    fn all(&self, out: &mut [u8]) -> u64;
+    fn info(&self, peer: &[u8], out: &mut [u8]) -> u64;
+    fn infos(&self, bits: &[u8], seconds: u64, nanos: u32, out: &mut [u8]) -> u64;
+    fn get_random_bit_vec(&self, place: u64, out: &mut [u8]) -> u64;
+    fn eligible(&self, peer: &[u8], seconds: u64, nanos: u32) -> u64;
+    fn acceptable(&self, peer: &[u8], seconds: u64, nanos: u32) -> u64;
+    fn dialable(&self, seconds: u64, nanos: u32, out: &mut [u8]) -> u64;
+    fn retained(&self) -> u64;
+    fn next_cooled(&self, out: &mut [u8]) -> u64;
+    fn tracked(&self) -> u64;
+    fn ask(&self, place: u64, out: &mut [u8]) -> u64;
+    fn check(&self, frame: &[u8], seconds: u64, nanos: u32, out: &mut [u8]) -> u64;
+    fn receive(&self, frame: &[u8], seconds: u64, nanos: u32, verdicts: &[u8], out: &mut [u8]) -> u64;
+}
+
+/// The calls of a session, each made by the method of its name.
+macro_rules! made_by_methods {
+    ($($session:ty),* $(,)?) => {
+        $(
+            impl Calls for $session {
+                #[inline]
+                fn new() -> Option<Self> {
+                    <$session>::new()
+                }
+
+                #[inline]
+                fn init(&self, allow_private_ips: bool, allow_dns: bool, max_sets: u64, dial_fail_limit: u64, cooldown_seconds: u64, cooldown_nanos: u32, block_seconds: u64, block_nanos: u32, max_bit_vec: u64, max_peers: u64, max_data_length: u64, peer_gossip_max_count: u64, bound_seconds: u64, bound_nanos: u32, namespace: &[u8], bootstrappers: &[u8], myself: &[u8]) -> u64 {
+                    <$session>::init(self, allow_private_ips, allow_dns, max_sets, dial_fail_limit, cooldown_seconds, cooldown_nanos, block_seconds, block_nanos, max_bit_vec, max_peers, max_data_length, peer_gossip_max_count, bound_seconds, bound_nanos, namespace, bootstrappers, myself)
+                }
+
+                #[inline]
+                fn track(&self, index: u64, primary: &[u8], secondary: &[u8], torn: &mut [u8]) -> u64 {
+                    <$session>::track(self, index, primary, secondary, torn)
+                }
+
+                #[inline]
+                fn track_room(&self) -> u64 {
+                    <$session>::track_room(self)
+                }
+
+                #[inline]
+                fn dial(&self, peer: &[u8], seconds: u64, nanos: u32, draw_seconds: u64, draw_nanos: u32) -> u64 {
+                    <$session>::dial(self, peer, seconds, nanos, draw_seconds, draw_nanos)
+                }
+
+                #[inline]
+                fn listen(&self, peer: &[u8], seconds: u64, nanos: u32, draw_seconds: u64, draw_nanos: u32) -> u64 {
+                    <$session>::listen(self, peer, seconds, nanos, draw_seconds, draw_nanos)
+                }
+
+                #[inline]
+                fn reservation(&self, peer: &[u8], out: &mut [u8]) -> u64 {
+                    <$session>::reservation(self, peer, out)
+                }
+
+                #[inline]
+                fn connect(&self, peer: &[u8], dialer: bool) -> u64 {
+                    <$session>::connect(self, peer, dialer)
+                }
+
+                #[inline]
+                fn release(&self, peer: &[u8]) -> u64 {
+                    <$session>::release(self, peer)
+                }
+
+                #[inline]
+                fn update_peers(&self, infos: &[u8]) -> u64 {
+                    <$session>::update_peers(self, infos)
+                }
+
+                #[inline]
+                fn block(&self, peer: &[u8], seconds: u64, nanos: u32) -> u64 {
+                    <$session>::block(self, peer, seconds, nanos)
+                }
+
+                #[inline]
+                fn unblock_expired(&self, seconds: u64, nanos: u32) -> u64 {
+                    <$session>::unblock_expired(self, seconds, nanos)
+                }
+
+                #[inline]
+                fn forget_cooled(&self, seconds: u64, nanos: u32) -> u64 {
+                    <$session>::forget_cooled(self, seconds, nanos)
+                }
+
+                #[inline]
+                fn next_unblock(&self, out: &mut [u8]) -> u64 {
+                    <$session>::next_unblock(self, out)
+                }
+
+                #[inline]
+                fn blocked_peers(&self, seconds: u64, nanos: u32, out: &mut [u8]) -> u64 {
+                    <$session>::blocked_peers(self, seconds, nanos, out)
+                }
+
+                #[inline]
+                fn status(&self, peer: &[u8]) -> u64 {
+                    <$session>::status(self, peer)
+                }
+
+                #[inline]
+                fn get_peer_set(&self, index: u64, out: &mut [u8]) -> u64 {
+                    <$session>::get_peer_set(self, index, out)
+                }
+
+                #[inline]
+                fn latest_set_index(&self, out: &mut [u8]) -> u64 {
+                    <$session>::latest_set_index(self, out)
+                }
+
+                #[inline]
+                fn latest_update(&self, out: &mut [u8]) -> u64 {
+                    <$session>::latest_update(self, out)
+                }
+
+                #[inline]
+                fn all(&self, out: &mut [u8]) -> u64 {
+                    <$session>::all(self, out)
+                }
+
+                #[inline]
+                fn info(&self, peer: &[u8], out: &mut [u8]) -> u64 {
+                    <$session>::info(self, peer, out)
+                }
+
+                #[inline]
+                fn infos(&self, bits: &[u8], seconds: u64, nanos: u32, out: &mut [u8]) -> u64 {
+                    <$session>::infos(self, bits, seconds, nanos, out)
+                }
+
+                #[inline]
+                fn get_random_bit_vec(&self, place: u64, out: &mut [u8]) -> u64 {
+                    <$session>::get_random_bit_vec(self, place, out)
+                }
+
+                #[inline]
+                fn eligible(&self, peer: &[u8], seconds: u64, nanos: u32) -> u64 {
+                    <$session>::eligible(self, peer, seconds, nanos)
+                }
+
+                #[inline]
+                fn acceptable(&self, peer: &[u8], seconds: u64, nanos: u32) -> u64 {
+                    <$session>::acceptable(self, peer, seconds, nanos)
+                }
+
+                #[inline]
+                fn dialable(&self, seconds: u64, nanos: u32, out: &mut [u8]) -> u64 {
+                    <$session>::dialable(self, seconds, nanos, out)
+                }
+
+                #[inline]
+                fn retained(&self) -> u64 {
+                    <$session>::retained(self)
+                }
+
+                #[inline]
+                fn next_cooled(&self, out: &mut [u8]) -> u64 {
+                    <$session>::next_cooled(self, out)
+                }
+
+                #[inline]
+                fn tracked(&self) -> u64 {
+                    <$session>::tracked(self)
+                }
+
+                #[inline]
+                fn ask(&self, place: u64, out: &mut [u8]) -> u64 {
+                    <$session>::ask(self, place, out)
+                }
+
+                #[inline]
+                fn check(&self, frame: &[u8], seconds: u64, nanos: u32, out: &mut [u8]) -> u64 {
+                    <$session>::check(self, frame, seconds, nanos, out)
+                }
+
+                #[inline]
+                fn receive(&self, frame: &[u8], seconds: u64, nanos: u32, verdicts: &[u8], out: &mut [u8]) -> u64 {
+                    <$session>::receive(self, frame, seconds, nanos, verdicts, out)
+                }
+            }
+        )*
+    };
+}
+
+made_by_methods! {
+    p2p_directory_sys::Session,
+    p2p_directory_sys::keys33_64::Session,
+    p2p_directory_sys::keys48_96::Session,
+    p2p_directory_sys::keys96_48::Session,
+}
+
 /// A session, and the recorder of its calls.
-pub(crate) struct Session {
-    session: exports::Session,
+#[cfg(feature = "record")]
+pub(crate) struct Recorded<P: Pair> {
+    session: <P as Sealed>::Calls,
     recorder: RefCell<Option<Recorder>>,
 }
 
-impl Session {
-    /// A session with no node, or `None` if the allocation fails.
-    pub(crate) fn new() -> Option<Session> {
-        Some(Session {
-            session: exports::Session::new()?,
-            recorder: RefCell::new(None),
-        })
-    }
-
+#[cfg(feature = "record")]
+impl<P: Pair> Recorded<P> {
     /// Records each call from now on.
     pub(crate) fn record(&self, mut recorder: Recorder) {
-        recorder.begin(KEY_SIZE, SIGNATURE_SIZE);
+        recorder.begin(P::KEY_SIZE, P::SIGNATURE_SIZE);
         self.recorder.replace(Some(recorder));
     }
 
@@ -44,10 +254,19 @@ impl Session {
             recorder.end();
         }
     }
+}
 
-    #[allow(clippy::too_many_arguments)]
+#[cfg(feature = "record")]
+impl<P: Pair> Calls for Recorded<P> {
+    fn new() -> Option<Recorded<P>> {
+        Some(Recorded {
+            session: <P as Sealed>::Calls::new()?,
+            recorder: RefCell::new(None),
+        })
+    }
+
     #[inline]
-    pub(crate) fn init(&self, allow_private_ips: bool, allow_dns: bool, max_sets: u64, dial_fail_limit: u64, cooldown_seconds: u64, cooldown_nanos: u32, block_seconds: u64, block_nanos: u32, max_bit_vec: u64, max_peers: u64, max_data_length: u64, peer_gossip_max_count: u64, bound_seconds: u64, bound_nanos: u32, namespace: &[u8], bootstrappers: &[u8], myself: &[u8]) -> u64 {
+    fn init(&self, allow_private_ips: bool, allow_dns: bool, max_sets: u64, dial_fail_limit: u64, cooldown_seconds: u64, cooldown_nanos: u32, block_seconds: u64, block_nanos: u32, max_bit_vec: u64, max_peers: u64, max_data_length: u64, peer_gossip_max_count: u64, bound_seconds: u64, bound_nanos: u32, namespace: &[u8], bootstrappers: &[u8], myself: &[u8]) -> u64 {
         let answer = self.session.init(allow_private_ips, allow_dns, max_sets, dial_fail_limit, cooldown_seconds, cooldown_nanos, block_seconds, block_nanos, max_bit_vec, max_peers, max_data_length, peer_gossip_max_count, bound_seconds, bound_nanos, namespace, bootstrappers, myself);
         if let Some(recorder) = self.recorder.borrow_mut().as_mut() {
             recorder.call(1, answer, &[], |entry| {
@@ -74,7 +293,7 @@ impl Session {
     }
 
     #[inline]
-    pub(crate) fn track(&self, index: u64, primary: &[u8], secondary: &[u8], torn: &mut [u8]) -> u64 {
+    fn track(&self, index: u64, primary: &[u8], secondary: &[u8], torn: &mut [u8]) -> u64 {
         let answer = self.session.track(index, primary, secondary, torn);
         if let Some(recorder) = self.recorder.borrow_mut().as_mut() {
             recorder.call(2, answer, torn, |entry| {
@@ -88,7 +307,7 @@ impl Session {
     }
 
     #[inline]
-    pub(crate) fn track_room(&self) -> u64 {
+    fn track_room(&self) -> u64 {
         let answer = self.session.track_room();
         if let Some(recorder) = self.recorder.borrow_mut().as_mut() {
             recorder.call(3, answer, &[], |_| ());
@@ -97,7 +316,7 @@ impl Session {
     }
 
     #[inline]
-    pub(crate) fn dial(&self, peer: &[u8], seconds: u64, nanos: u32, draw_seconds: u64, draw_nanos: u32) -> u64 {
+    fn dial(&self, peer: &[u8], seconds: u64, nanos: u32, draw_seconds: u64, draw_nanos: u32) -> u64 {
         let answer = self.session.dial(peer, seconds, nanos, draw_seconds, draw_nanos);
         if let Some(recorder) = self.recorder.borrow_mut().as_mut() {
             recorder.call(4, answer, &[], |entry| {
@@ -112,7 +331,7 @@ impl Session {
     }
 
     #[inline]
-    pub(crate) fn listen(&self, peer: &[u8], seconds: u64, nanos: u32, draw_seconds: u64, draw_nanos: u32) -> u64 {
+    fn listen(&self, peer: &[u8], seconds: u64, nanos: u32, draw_seconds: u64, draw_nanos: u32) -> u64 {
         let answer = self.session.listen(peer, seconds, nanos, draw_seconds, draw_nanos);
         if let Some(recorder) = self.recorder.borrow_mut().as_mut() {
             recorder.call(5, answer, &[], |entry| {
@@ -127,7 +346,7 @@ impl Session {
     }
 
     #[inline]
-    pub(crate) fn reservation(&self, peer: &[u8], out: &mut [u8]) -> u64 {
+    fn reservation(&self, peer: &[u8], out: &mut [u8]) -> u64 {
         let answer = self.session.reservation(peer, out);
         if let Some(recorder) = self.recorder.borrow_mut().as_mut() {
             recorder.call(6, answer, out, |entry| {
@@ -139,7 +358,7 @@ impl Session {
     }
 
     #[inline]
-    pub(crate) fn connect(&self, peer: &[u8], dialer: bool) -> u64 {
+    fn connect(&self, peer: &[u8], dialer: bool) -> u64 {
         let answer = self.session.connect(peer, dialer);
         if let Some(recorder) = self.recorder.borrow_mut().as_mut() {
             recorder.call(7, answer, &[], |entry| {
@@ -151,7 +370,7 @@ impl Session {
     }
 
     #[inline]
-    pub(crate) fn release(&self, peer: &[u8]) -> u64 {
+    fn release(&self, peer: &[u8]) -> u64 {
         let answer = self.session.release(peer);
         if let Some(recorder) = self.recorder.borrow_mut().as_mut() {
             recorder.call(8, answer, &[], |entry| {
@@ -162,7 +381,7 @@ impl Session {
     }
 
     #[inline]
-    pub(crate) fn update_peers(&self, infos: &[u8]) -> u64 {
+    fn update_peers(&self, infos: &[u8]) -> u64 {
         let answer = self.session.update_peers(infos);
         if let Some(recorder) = self.recorder.borrow_mut().as_mut() {
             recorder.call(9, answer, &[], |entry| {
@@ -173,7 +392,7 @@ impl Session {
     }
 
     #[inline]
-    pub(crate) fn block(&self, peer: &[u8], seconds: u64, nanos: u32) -> u64 {
+    fn block(&self, peer: &[u8], seconds: u64, nanos: u32) -> u64 {
         let answer = self.session.block(peer, seconds, nanos);
         if let Some(recorder) = self.recorder.borrow_mut().as_mut() {
             recorder.call(10, answer, &[], |entry| {
@@ -186,7 +405,7 @@ impl Session {
     }
 
     #[inline]
-    pub(crate) fn unblock_expired(&self, seconds: u64, nanos: u32) -> u64 {
+    fn unblock_expired(&self, seconds: u64, nanos: u32) -> u64 {
         let answer = self.session.unblock_expired(seconds, nanos);
         if let Some(recorder) = self.recorder.borrow_mut().as_mut() {
             recorder.call(11, answer, &[], |entry| {
@@ -198,7 +417,7 @@ impl Session {
     }
 
     #[inline]
-    pub(crate) fn forget_cooled(&self, seconds: u64, nanos: u32) -> u64 {
+    fn forget_cooled(&self, seconds: u64, nanos: u32) -> u64 {
         let answer = self.session.forget_cooled(seconds, nanos);
         if let Some(recorder) = self.recorder.borrow_mut().as_mut() {
             recorder.call(12, answer, &[], |entry| {
@@ -210,7 +429,7 @@ impl Session {
     }
 
     #[inline]
-    pub(crate) fn next_unblock(&self, out: &mut [u8]) -> u64 {
+    fn next_unblock(&self, out: &mut [u8]) -> u64 {
         let answer = self.session.next_unblock(out);
         if let Some(recorder) = self.recorder.borrow_mut().as_mut() {
             recorder.call(13, answer, out, |entry| {
@@ -221,7 +440,7 @@ impl Session {
     }
 
     #[inline]
-    pub(crate) fn blocked_peers(&self, seconds: u64, nanos: u32, out: &mut [u8]) -> u64 {
+    fn blocked_peers(&self, seconds: u64, nanos: u32, out: &mut [u8]) -> u64 {
         let answer = self.session.blocked_peers(seconds, nanos, out);
         if let Some(recorder) = self.recorder.borrow_mut().as_mut() {
             recorder.call(14, answer, out, |entry| {
@@ -234,7 +453,7 @@ impl Session {
     }
 
     #[inline]
-    pub(crate) fn status(&self, peer: &[u8]) -> u64 {
+    fn status(&self, peer: &[u8]) -> u64 {
         let answer = self.session.status(peer);
         if let Some(recorder) = self.recorder.borrow_mut().as_mut() {
             recorder.call(15, answer, &[], |entry| {
@@ -245,7 +464,7 @@ impl Session {
     }
 
     #[inline]
-    pub(crate) fn get_peer_set(&self, index: u64, out: &mut [u8]) -> u64 {
+    fn get_peer_set(&self, index: u64, out: &mut [u8]) -> u64 {
         let answer = self.session.get_peer_set(index, out);
         if let Some(recorder) = self.recorder.borrow_mut().as_mut() {
             recorder.call(16, answer, out, |entry| {
@@ -257,7 +476,7 @@ impl Session {
     }
 
     #[inline]
-    pub(crate) fn latest_set_index(&self, out: &mut [u8]) -> u64 {
+    fn latest_set_index(&self, out: &mut [u8]) -> u64 {
         let answer = self.session.latest_set_index(out);
         if let Some(recorder) = self.recorder.borrow_mut().as_mut() {
             recorder.call(17, answer, out, |entry| {
@@ -268,7 +487,7 @@ impl Session {
     }
 
     #[inline]
-    pub(crate) fn latest_update(&self, out: &mut [u8]) -> u64 {
+    fn latest_update(&self, out: &mut [u8]) -> u64 {
         let answer = self.session.latest_update(out);
         if let Some(recorder) = self.recorder.borrow_mut().as_mut() {
             recorder.call(18, answer, out, |entry| {
@@ -279,7 +498,7 @@ impl Session {
     }
 
     #[inline]
-    pub(crate) fn all(&self, out: &mut [u8]) -> u64 {
+    fn all(&self, out: &mut [u8]) -> u64 {
         let answer = self.session.all(out);
         if let Some(recorder) = self.recorder.borrow_mut().as_mut() {
             recorder.call(19, answer, out, |entry| {
@@ -290,7 +509,7 @@ impl Session {
     }
 
     #[inline]
-    pub(crate) fn info(&self, peer: &[u8], out: &mut [u8]) -> u64 {
+    fn info(&self, peer: &[u8], out: &mut [u8]) -> u64 {
         let answer = self.session.info(peer, out);
         if let Some(recorder) = self.recorder.borrow_mut().as_mut() {
             recorder.call(20, answer, out, |entry| {
@@ -302,7 +521,7 @@ impl Session {
     }
 
     #[inline]
-    pub(crate) fn infos(&self, bits: &[u8], seconds: u64, nanos: u32, out: &mut [u8]) -> u64 {
+    fn infos(&self, bits: &[u8], seconds: u64, nanos: u32, out: &mut [u8]) -> u64 {
         let answer = self.session.infos(bits, seconds, nanos, out);
         if let Some(recorder) = self.recorder.borrow_mut().as_mut() {
             recorder.call(21, answer, out, |entry| {
@@ -316,7 +535,7 @@ impl Session {
     }
 
     #[inline]
-    pub(crate) fn get_random_bit_vec(&self, place: u64, out: &mut [u8]) -> u64 {
+    fn get_random_bit_vec(&self, place: u64, out: &mut [u8]) -> u64 {
         let answer = self.session.get_random_bit_vec(place, out);
         if let Some(recorder) = self.recorder.borrow_mut().as_mut() {
             recorder.call(22, answer, out, |entry| {
@@ -328,7 +547,7 @@ impl Session {
     }
 
     #[inline]
-    pub(crate) fn eligible(&self, peer: &[u8], seconds: u64, nanos: u32) -> u64 {
+    fn eligible(&self, peer: &[u8], seconds: u64, nanos: u32) -> u64 {
         let answer = self.session.eligible(peer, seconds, nanos);
         if let Some(recorder) = self.recorder.borrow_mut().as_mut() {
             recorder.call(23, answer, &[], |entry| {
@@ -341,7 +560,7 @@ impl Session {
     }
 
     #[inline]
-    pub(crate) fn acceptable(&self, peer: &[u8], seconds: u64, nanos: u32) -> u64 {
+    fn acceptable(&self, peer: &[u8], seconds: u64, nanos: u32) -> u64 {
         let answer = self.session.acceptable(peer, seconds, nanos);
         if let Some(recorder) = self.recorder.borrow_mut().as_mut() {
             recorder.call(24, answer, &[], |entry| {
@@ -354,7 +573,7 @@ impl Session {
     }
 
     #[inline]
-    pub(crate) fn dialable(&self, seconds: u64, nanos: u32, out: &mut [u8]) -> u64 {
+    fn dialable(&self, seconds: u64, nanos: u32, out: &mut [u8]) -> u64 {
         let answer = self.session.dialable(seconds, nanos, out);
         if let Some(recorder) = self.recorder.borrow_mut().as_mut() {
             recorder.call(25, answer, out, |entry| {
@@ -367,7 +586,7 @@ impl Session {
     }
 
     #[inline]
-    pub(crate) fn retained(&self) -> u64 {
+    fn retained(&self) -> u64 {
         let answer = self.session.retained();
         if let Some(recorder) = self.recorder.borrow_mut().as_mut() {
             recorder.call(26, answer, &[], |_| ());
@@ -376,7 +595,7 @@ impl Session {
     }
 
     #[inline]
-    pub(crate) fn next_cooled(&self, out: &mut [u8]) -> u64 {
+    fn next_cooled(&self, out: &mut [u8]) -> u64 {
         let answer = self.session.next_cooled(out);
         if let Some(recorder) = self.recorder.borrow_mut().as_mut() {
             recorder.call(27, answer, out, |entry| {
@@ -387,7 +606,7 @@ impl Session {
     }
 
     #[inline]
-    pub(crate) fn tracked(&self) -> u64 {
+    fn tracked(&self) -> u64 {
         let answer = self.session.tracked();
         if let Some(recorder) = self.recorder.borrow_mut().as_mut() {
             recorder.call(28, answer, &[], |_| ());
@@ -396,7 +615,7 @@ impl Session {
     }
 
     #[inline]
-    pub(crate) fn ask(&self, place: u64, out: &mut [u8]) -> u64 {
+    fn ask(&self, place: u64, out: &mut [u8]) -> u64 {
         let answer = self.session.ask(place, out);
         if let Some(recorder) = self.recorder.borrow_mut().as_mut() {
             recorder.call(29, answer, out, |entry| {
@@ -408,7 +627,7 @@ impl Session {
     }
 
     #[inline]
-    pub(crate) fn check(&self, frame: &[u8], seconds: u64, nanos: u32, out: &mut [u8]) -> u64 {
+    fn check(&self, frame: &[u8], seconds: u64, nanos: u32, out: &mut [u8]) -> u64 {
         let answer = self.session.check(frame, seconds, nanos, out);
         if let Some(recorder) = self.recorder.borrow_mut().as_mut() {
             recorder.call(30, answer, out, |entry| {
@@ -422,7 +641,7 @@ impl Session {
     }
 
     #[inline]
-    pub(crate) fn receive(&self, frame: &[u8], seconds: u64, nanos: u32, verdicts: &[u8], out: &mut [u8]) -> u64 {
+    fn receive(&self, frame: &[u8], seconds: u64, nanos: u32, verdicts: &[u8], out: &mut [u8]) -> u64 {
         let answer = self.session.receive(frame, seconds, nanos, verdicts, out);
         if let Some(recorder) = self.recorder.borrow_mut().as_mut() {
             recorder.call(31, answer, out, |entry| {

@@ -2,7 +2,8 @@
 
 use super::super::Session;
 use super::super::info::{Info, read_infos};
-use super::super::key::{KEY_SIZE, Key};
+use super::super::pair::Pair;
+use super::super::session::Calls;
 use super::super::sets::{OrderedSet, TrackedPeers, read_keys};
 use super::{Dialable, Directory, PeerSetUpdate};
 use crate::answer::{Kind, OWN, certain, is_certain, unknown};
@@ -14,7 +15,7 @@ use crate::moment::Moment;
 use crate::status::Status;
 use p2p_directory_sys::NONE;
 
-impl Directory {
+impl<P: Pair> Directory<P> {
     /// When the next block ends, or `None` if there is no block. A block that has ended counts
     /// until [`Directory::unblock_expired`] removes it.
     ///
@@ -27,7 +28,9 @@ impl Directory {
     /// ```
     #[must_use]
     pub fn next_unblock(&self) -> Option<Moment> {
-        self.certain_question(Session::next_unblock, |bytes| Reader::new(bytes).moment())
+        self.certain_question(Session::<P>::next_unblock, |bytes| {
+            Reader::new(bytes).moment()
+        })
     }
 
     /// The peers that are blocked at the time `now`, in ascending order.
@@ -48,7 +51,7 @@ impl Directory {
     /// assert!(directory.blocked_peers(Moment::EPOCH)?.is_empty());
     /// # Ok::<(), OutOfMemory>(())
     /// ```
-    pub fn blocked_peers(&self, now: Moment) -> Result<OrderedSet, OutOfMemory> {
+    pub fn blocked_peers(&self, now: Moment) -> Result<OrderedSet<P>, OutOfMemory> {
         let (seconds, nanos) = now.parts();
         let blocked = self.question(
             Kind::Blocked,
@@ -74,7 +77,7 @@ impl Directory {
     /// assert_eq!(directory.get_peer_set(5)?, Some(peers));
     /// # Ok::<(), OutOfMemory>(())
     /// ```
-    pub fn get_peer_set(&self, index: u64) -> Result<Option<TrackedPeers>, OutOfMemory> {
+    pub fn get_peer_set(&self, index: u64) -> Result<Option<TrackedPeers<P>>, OutOfMemory> {
         self.question(
             Kind::PeerSet,
             |session, out| session.get_peer_set(index, out),
@@ -97,8 +100,8 @@ impl Directory {
     /// assert_eq!(directory.latest_update()?, None);
     /// # Ok::<(), OutOfMemory>(())
     /// ```
-    pub fn latest_update(&self) -> Result<Option<PeerSetUpdate>, OutOfMemory> {
-        self.question(Kind::Update, Session::latest_update, read_update)
+    pub fn latest_update(&self) -> Result<Option<PeerSetUpdate<P>>, OutOfMemory> {
+        self.question(Kind::Update, Session::<P>::latest_update, read_update)
     }
 
     /// The index of the latest set, or `None` if no set was registered.
@@ -112,7 +115,7 @@ impl Directory {
     /// ```
     #[must_use]
     pub fn latest_set_index(&self) -> Option<u64> {
-        self.certain_question(Session::latest_set_index, |bytes| {
+        self.certain_question(Session::<P>::latest_set_index, |bytes| {
             Reader::new(bytes).number()
         })
     }
@@ -135,8 +138,8 @@ impl Directory {
     /// assert_eq!(directory.all()?, TrackedPeers::default());
     /// # Ok::<(), OutOfMemory>(())
     /// ```
-    pub fn all(&self) -> Result<TrackedPeers, OutOfMemory> {
-        let all = self.question(Kind::All, Session::all, read_peers)?;
+    pub fn all(&self) -> Result<TrackedPeers<P>, OutOfMemory> {
+        let all = self.question(Kind::All, Session::<P>::all, read_peers)?;
         Ok(all.expect(OWN))
     }
 
@@ -151,8 +154,8 @@ impl Directory {
     /// ```
     #[must_use]
     #[inline]
-    pub fn status(&self, peer: &Key) -> Option<Status> {
-        match self.session().status(peer.as_bytes()) {
+    pub fn status(&self, peer: &P::Key) -> Option<Status> {
+        match self.session().status(peer.as_ref()) {
             NONE => None,
             0 => Some(Status::Inert),
             1 => Some(Status::Reserved),
@@ -177,10 +180,10 @@ impl Directory {
     /// assert_eq!(own.timestamp, 0);
     /// # Ok::<(), OutOfMemory>(())
     /// ```
-    pub fn info(&self, peer: &Key) -> Result<Option<Info>, OutOfMemory> {
+    pub fn info(&self, peer: &P::Key) -> Result<Option<Info<P>>, OutOfMemory> {
         self.question(
             Kind::Info,
-            |session, out| session.info(peer.as_bytes(), out),
+            |session, out| session.info(peer.as_ref(), out),
             |bytes| Info::read(&mut Reader::new(bytes)),
         )
     }
@@ -211,7 +214,11 @@ impl Directory {
     /// assert_eq!(directory.infos(&bits, Moment::EPOCH)?, Some(Vec::new()));
     /// # Ok::<(), OutOfMemory>(())
     /// ```
-    pub fn infos(&self, bit_vec: &BitVec, now: Moment) -> Result<Option<Vec<Info>>, OutOfMemory> {
+    pub fn infos(
+        &self,
+        bit_vec: &BitVec,
+        now: Moment,
+    ) -> Result<Option<Vec<Info<P>>>, OutOfMemory> {
         let (seconds, nanos) = now.parts();
         let mut spelled = self.input.borrow_mut();
         spelled.clear();
@@ -267,9 +274,9 @@ impl Directory {
     /// ```
     #[must_use]
     #[inline]
-    pub fn eligible(&self, peer: &Key, now: Moment) -> bool {
+    pub fn eligible(&self, peer: &P::Key, now: Moment) -> bool {
         let (seconds, nanos) = now.parts();
-        is_certain(self.session().eligible(peer.as_bytes(), seconds, nanos))
+        is_certain(self.session().eligible(peer.as_ref(), seconds, nanos))
     }
 
     /// Whether an inbound connection of the peer may be accepted at the time `now`: it is eligible,
@@ -284,9 +291,9 @@ impl Directory {
     /// ```
     #[must_use]
     #[inline]
-    pub fn acceptable(&self, peer: &Key, now: Moment) -> bool {
+    pub fn acceptable(&self, peer: &P::Key, now: Moment) -> bool {
         let (seconds, nanos) = now.parts();
-        is_certain(self.session().acceptable(peer.as_bytes(), seconds, nanos))
+        is_certain(self.session().acceptable(peer.as_ref(), seconds, nanos))
     }
 
     /// The peers that may be dialled at the time `now`, and when to ask again.
@@ -307,7 +314,7 @@ impl Directory {
     /// assert_eq!(directory.dialable(Moment::EPOCH)?, Dialable::default());
     /// # Ok::<(), OutOfMemory>(())
     /// ```
-    pub fn dialable(&self, now: Moment) -> Result<Dialable, OutOfMemory> {
+    pub fn dialable(&self, now: Moment) -> Result<Dialable<P>, OutOfMemory> {
         let (seconds, nanos) = now.parts();
         let dialable = self.question(
             Kind::Dialable,
@@ -354,7 +361,9 @@ impl Directory {
     /// ```
     #[must_use]
     pub fn next_cooled(&self) -> Option<Moment> {
-        self.certain_question(Session::next_cooled, |bytes| Reader::new(bytes).moment())
+        self.certain_question(Session::<P>::next_cooled, |bytes| {
+            Reader::new(bytes).moment()
+        })
     }
 
     /// How many peers have a record, not counting the local node.
@@ -373,7 +382,7 @@ impl Directory {
     }
 }
 
-fn read_peers(bytes: &[u8]) -> Result<TrackedPeers, ReadError> {
+fn read_peers<P: Pair>(bytes: &[u8]) -> Result<TrackedPeers<P>, ReadError> {
     let mut reader = Reader::new(bytes);
     let primary = reader.number()?;
     let primary = read_set(&mut reader, primary)?;
@@ -381,7 +390,7 @@ fn read_peers(bytes: &[u8]) -> Result<TrackedPeers, ReadError> {
     Ok(TrackedPeers::new(primary, secondary))
 }
 
-fn read_update(bytes: &[u8]) -> Result<PeerSetUpdate, ReadError> {
+fn read_update<P: Pair>(bytes: &[u8]) -> Result<PeerSetUpdate<P>, ReadError> {
     let mut reader = Reader::new(bytes);
     let index = reader.number()?;
     let (primary, secondary, all) = (reader.number()?, reader.number()?, reader.number()?);
@@ -394,7 +403,7 @@ fn read_update(bytes: &[u8]) -> Result<PeerSetUpdate, ReadError> {
     Ok(PeerSetUpdate { index, latest, all })
 }
 
-fn read_dialable(bytes: &[u8]) -> Result<Dialable, ReadError> {
+fn read_dialable<P: Pair>(bytes: &[u8]) -> Result<Dialable<P>, ReadError> {
     let mut reader = Reader::new(bytes);
     let next_query_at = match reader.byte()? {
         0 => None,
@@ -402,12 +411,12 @@ fn read_dialable(bytes: &[u8]) -> Result<Dialable, ReadError> {
         other => unknown(other.into()),
     };
     Ok(Dialable {
-        peers: read_keys(reader.rest())?,
+        peers: read_keys::<P>(reader.rest())?,
         next_query_at,
     })
 }
 
-fn read_set(reader: &mut Reader<'_>, count: u64) -> Result<OrderedSet, ReadError> {
-    let keys = reader.take(count as usize * KEY_SIZE)?;
+fn read_set<P: Pair>(reader: &mut Reader<'_>, count: u64) -> Result<OrderedSet<P>, ReadError> {
+    let keys = reader.take(count as usize * P::KEY_SIZE)?;
     Ok(OrderedSet::read(keys)?)
 }

@@ -1,6 +1,6 @@
 //! Sorted sets of keys, the peers of a set by role, and what registering them returns.
 
-use super::key::{KEY_SIZE, Key};
+use super::pair::{Pair, Private};
 use crate::error::{DuplicateKeyError, OutOfMemory};
 use std::ops::Deref;
 
@@ -17,10 +17,16 @@ use std::ops::Deref;
 /// assert_eq!(set.to_vec(), [Key([1; 32]), Key([2; 32])]);
 /// assert_eq!(set.position(&Key([2; 32])), Some(1));
 /// ```
-#[derive(Clone, Debug, Default, PartialEq, Eq, PartialOrd, Ord, Hash)]
-pub struct OrderedSet(Vec<Key>);
+#[derive(Clone, Debug, PartialEq, Eq, PartialOrd, Ord, Hash)]
+pub struct OrderedSet<P: Pair>(Vec<P::Key>);
 
-impl OrderedSet {
+impl<P: Pair> Default for OrderedSet<P> {
+    fn default() -> OrderedSet<P> {
+        OrderedSet(Vec::new())
+    }
+}
+
+impl<P: Pair> OrderedSet<P> {
     /// Creates a set from keys, and drops duplicates. It aborts the program if an allocation fails.
     ///
     /// # Examples
@@ -30,8 +36,8 @@ impl OrderedSet {
     /// assert_eq!(OrderedSet::from_iter_dedup([Key([1; 32]); 3]).len(), 1);
     /// ```
     #[must_use]
-    pub fn from_iter_dedup(keys: impl IntoIterator<Item = Key>) -> OrderedSet {
-        let mut keys: Vec<Key> = keys.into_iter().collect();
+    pub fn from_iter_dedup(keys: impl IntoIterator<Item = P::Key>) -> OrderedSet<P> {
+        let mut keys: Vec<P::Key> = keys.into_iter().collect();
         keys.sort_unstable();
         keys.dedup();
         OrderedSet(keys)
@@ -47,66 +53,65 @@ impl OrderedSet {
     /// assert_eq!(set.position(&Key([9; 32])), None);
     /// ```
     #[must_use]
-    pub fn position(&self, key: &Key) -> Option<usize> {
+    pub fn position(&self, key: &P::Key) -> Option<usize> {
         self.0.binary_search(key).ok()
     }
 
     pub(crate) fn write(&self, out: &mut Vec<u8>) -> Result<(), OutOfMemory> {
-        out.try_reserve(self.0.len() * KEY_SIZE)?;
+        out.try_reserve(self.0.len() * P::KEY_SIZE)?;
         for key in &self.0 {
-            out.extend_from_slice(key.as_bytes());
+            out.extend_from_slice(key.as_ref());
         }
         Ok(())
     }
 
     // Reads keys that are written one after the other. They are sorted and distinct.
-    pub(crate) fn read(bytes: &[u8]) -> Result<OrderedSet, OutOfMemory> {
-        read_keys(bytes).map(OrderedSet)
+    pub(crate) fn read(bytes: &[u8]) -> Result<OrderedSet<P>, OutOfMemory> {
+        read_keys::<P>(bytes).map(OrderedSet)
     }
 
     // Reads them as `read` does, into an empty list.
-    pub(crate) fn read_into(mut room: Vec<Key>, bytes: &[u8]) -> OrderedSet {
-        room.extend(keys_of(bytes));
+    pub(crate) fn read_into(mut room: Vec<P::Key>, bytes: &[u8]) -> OrderedSet<P> {
+        room.extend(keys_of::<P>(bytes));
         OrderedSet(room)
     }
 }
 
-fn keys_of(bytes: &[u8]) -> impl ExactSizeIterator<Item = Key> {
-    let (keys, _none) = bytes.as_chunks::<KEY_SIZE>();
-    keys.iter().map(|key| Key::of_library(*key))
+fn keys_of<P: Pair>(bytes: &[u8]) -> impl ExactSizeIterator<Item = P::Key> {
+    bytes.chunks_exact(P::KEY_SIZE).map(P::Key::of_library)
 }
 
 /// Reads keys that are written one after the other.
-pub(crate) fn read_keys(bytes: &[u8]) -> Result<Vec<Key>, OutOfMemory> {
-    let spelled = keys_of(bytes);
+pub(crate) fn read_keys<P: Pair>(bytes: &[u8]) -> Result<Vec<P::Key>, OutOfMemory> {
+    let spelled = keys_of::<P>(bytes);
     let mut keys = Vec::new();
     keys.try_reserve_exact(spelled.len())?;
     keys.extend(spelled);
     Ok(keys)
 }
 
-impl Deref for OrderedSet {
-    type Target = [Key];
+impl<P: Pair> Deref for OrderedSet<P> {
+    type Target = [P::Key];
 
-    fn deref(&self) -> &[Key] {
+    fn deref(&self) -> &[P::Key] {
         &self.0
     }
 }
 
-impl<const N: usize> TryFrom<[Key; N]> for OrderedSet {
+impl<const N: usize, P: Pair> TryFrom<[P::Key; N]> for OrderedSet<P> {
     type Error = DuplicateKeyError;
 
     /// Creates a set from these keys, in any order, and fails if a key occurs more than once.
-    fn try_from(keys: [Key; N]) -> Result<OrderedSet, DuplicateKeyError> {
+    fn try_from(keys: [P::Key; N]) -> Result<OrderedSet<P>, DuplicateKeyError> {
         OrderedSet::try_from(Vec::from(keys))
     }
 }
 
-impl TryFrom<Vec<Key>> for OrderedSet {
+impl<P: Pair> TryFrom<Vec<P::Key>> for OrderedSet<P> {
     type Error = DuplicateKeyError;
 
     /// Creates a set from these keys, in any order, and fails if a key occurs more than once.
-    fn try_from(mut keys: Vec<Key>) -> Result<OrderedSet, DuplicateKeyError> {
+    fn try_from(mut keys: Vec<P::Key>) -> Result<OrderedSet<P>, DuplicateKeyError> {
         keys.sort_unstable();
         if keys.windows(2).any(|pair| pair[0] == pair[1]) {
             return Err(DuplicateKeyError);
@@ -115,38 +120,38 @@ impl TryFrom<Vec<Key>> for OrderedSet {
     }
 }
 
-impl AsRef<[Key]> for OrderedSet {
-    fn as_ref(&self) -> &[Key] {
+impl<P: Pair> AsRef<[P::Key]> for OrderedSet<P> {
+    fn as_ref(&self) -> &[P::Key] {
         &self.0
     }
 }
 
-impl From<OrderedSet> for Vec<Key> {
+impl<P: Pair> From<OrderedSet<P>> for Vec<P::Key> {
     /// Returns the keys in ascending order. It doesn't allocate.
-    fn from(set: OrderedSet) -> Vec<Key> {
+    fn from(set: OrderedSet<P>) -> Vec<P::Key> {
         set.0
     }
 }
 
-impl IntoIterator for OrderedSet {
-    type Item = Key;
-    type IntoIter = std::vec::IntoIter<Key>;
+impl<P: Pair> IntoIterator for OrderedSet<P> {
+    type Item = P::Key;
+    type IntoIter = std::vec::IntoIter<P::Key>;
 
     fn into_iter(self) -> Self::IntoIter {
         self.0.into_iter()
     }
 }
 
-impl FromIterator<Key> for OrderedSet {
+impl<P: Pair> FromIterator<P::Key> for OrderedSet<P> {
     /// Creates a set as [`OrderedSet::from_iter_dedup`] does.
-    fn from_iter<I: IntoIterator<Item = Key>>(keys: I) -> OrderedSet {
+    fn from_iter<I: IntoIterator<Item = P::Key>>(keys: I) -> OrderedSet<P> {
         OrderedSet::from_iter_dedup(keys)
     }
 }
 
-impl<'a> IntoIterator for &'a OrderedSet {
-    type Item = &'a Key;
-    type IntoIter = std::slice::Iter<'a, Key>;
+impl<'a, P: Pair> IntoIterator for &'a OrderedSet<P> {
+    type Item = &'a P::Key;
+    type IntoIter = std::slice::Iter<'a, P::Key>;
 
     fn into_iter(self) -> Self::IntoIter {
         self.0.iter()
@@ -163,15 +168,21 @@ impl<'a> IntoIterator for &'a OrderedSet {
 /// let primary = OrderedSet::from_iter_dedup([Key([1; 32])]);
 /// assert!(TrackedPeers::from(primary).secondary.is_empty());
 /// ```
-#[derive(Clone, Debug, Default, PartialEq, Eq, Hash)]
-pub struct TrackedPeers {
+#[derive(Clone, Debug, PartialEq, Eq, Hash)]
+pub struct TrackedPeers<P: Pair> {
     /// The primary peers, whose infos are gossiped.
-    pub primary: OrderedSet,
+    pub primary: OrderedSet<P>,
     /// The secondary peers. A peer in both roles is primary only.
-    pub secondary: OrderedSet,
+    pub secondary: OrderedSet<P>,
 }
 
-impl TrackedPeers {
+impl<P: Pair> Default for TrackedPeers<P> {
+    fn default() -> TrackedPeers<P> {
+        TrackedPeers::from(OrderedSet::default())
+    }
+}
+
+impl<P: Pair> TrackedPeers<P> {
     /// Creates a value from the peers of both roles.
     ///
     /// # Examples
@@ -182,14 +193,14 @@ impl TrackedPeers {
     /// assert_eq!(none, TrackedPeers::default());
     /// ```
     #[must_use]
-    pub fn new(primary: OrderedSet, secondary: OrderedSet) -> TrackedPeers {
+    pub fn new(primary: OrderedSet<P>, secondary: OrderedSet<P>) -> TrackedPeers<P> {
         TrackedPeers { primary, secondary }
     }
 }
 
-impl From<OrderedSet> for TrackedPeers {
+impl<P: Pair> From<OrderedSet<P>> for TrackedPeers<P> {
     /// Creates a value with these primary peers and no secondary ones.
-    fn from(primary: OrderedSet) -> TrackedPeers {
+    fn from(primary: OrderedSet<P>) -> TrackedPeers<P> {
         TrackedPeers::new(primary, OrderedSet::default())
     }
 }
@@ -233,15 +244,15 @@ impl From<OrderedSet> for TrackedPeers {
 /// ```
 #[derive(Clone, Debug, PartialEq, Eq, Hash)]
 #[must_use = "it says which peers must be disconnected"]
-pub enum Tracked {
+pub enum Tracked<P: Pair> {
     /// The set is retained. These peers must be disconnected: they are reserved or connected, were
     /// eligible before, and no longer are.
-    Accepted(OrderedSet),
+    Accepted(OrderedSet<P>),
     /// The index isn't above that of each set registered before. Nothing has changed.
     Stale,
 }
 
-impl Tracked {
+impl<P: Pair> Tracked<P> {
     /// The peers that must be disconnected, or `None` if the set isn't registered.
     ///
     /// # Examples
@@ -251,7 +262,7 @@ impl Tracked {
     /// assert_eq!(Tracked::Stale.accepted(), None);
     /// ```
     #[must_use = "these peers must be disconnected"]
-    pub fn accepted(self) -> Option<OrderedSet> {
+    pub fn accepted(self) -> Option<OrderedSet<P>> {
         match self {
             Tracked::Accepted(to_disconnect) => Some(to_disconnect),
             Tracked::Stale => None,

@@ -1,9 +1,9 @@
 //! Calls that are refused, and that nothing changes then.
 
-use super::super::exports::Session;
-use super::super::key::KEY_SIZE;
-use super::super::signature::SIGNATURE_SIZE;
 use super::given::{Given, asked, given, info, infos, init, key, keys, session, tracking};
+use crate::exports::Session;
+use crate::pair::KEY_SIZE;
+use crate::pair::SIGNATURE_SIZE;
 use p2p_directory_sys::{
     BAD_BITS, BAD_INFO, BAD_KEY, BAD_KEYS, BAD_MOMENT, BAD_SETTING, NO_NODE, NO_ROOM, NOT_HELD,
     NOT_RESERVED,

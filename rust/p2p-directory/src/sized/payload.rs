@@ -1,6 +1,7 @@
 //! The frames that peers send to each other.
 
-use super::info::{Info, MIN_INFO_SIZE, read_infos, try_write_infos, write_infos};
+use super::info::{Info, min_info_size, read_infos, try_write_infos, write_infos};
+use super::pair::Pair;
 use crate::codec::{ReadError, Reader, varint_size};
 use crate::config::PayloadConfig;
 use crate::data::{BitVec, DATA_PREFIX, Data};
@@ -24,15 +25,15 @@ const PEERS_PREFIX: u8 = 3;
 /// assert_eq!(Payload::decode(&frame, &limits), Ok(Payload::Peers(Vec::new())));
 /// ```
 #[derive(Clone, Debug, PartialEq, Eq, Hash)]
-pub enum Payload {
+pub enum Payload<P: Pair> {
     /// A message on a channel.
     Data(Data),
     /// The sender's own info. Nothing checks that it is the peer of the connection: the host must.
-    Greeting(Info),
+    Greeting(Info<P>),
     /// Which infos of a set the sender knows. It asks for the others.
     BitVec(BitVec),
     /// Infos for which the receiver asked.
-    Peers(Vec<Info>),
+    Peers(Vec<Info<P>>),
 }
 
 /// The maximum size of a frame that isn't data, if it has at most so many bits or infos. A
@@ -44,12 +45,12 @@ pub enum Payload {
 /// assert_eq!(p2p_directory::max_gossip_size(100_000, 0), Some(12_514));
 /// ```
 #[must_use]
-pub const fn max_gossip_size(max_bit_vec: u64, max_peers: usize) -> Option<usize> {
-    longest_gossip(Info::max_encode_size(), max_bit_vec, max_peers)
+pub const fn max_gossip_size<P: Pair>(max_bit_vec: u64, max_peers: usize) -> Option<usize> {
+    longest_gossip(Info::<P>::max_encode_size(), max_bit_vec, max_peers)
 }
 
 /// The frame of a greeting with this info, unless an allocation fails.
-pub(crate) fn greeting_of(info: &Info) -> Result<Vec<u8>, OutOfMemory> {
+pub(crate) fn greeting_of<P: Pair>(info: &Info<P>) -> Result<Vec<u8>, OutOfMemory> {
     let mut frame = Vec::new();
     frame.try_reserve_exact(1 + info.encode_size())?;
     frame.push(GREETING_PREFIX);
@@ -58,7 +59,7 @@ pub(crate) fn greeting_of(info: &Info) -> Result<Vec<u8>, OutOfMemory> {
 }
 
 /// The frame of a reply with these infos, unless an allocation fails.
-pub(crate) fn reply_of(infos: &[Info]) -> Result<Vec<u8>, OutOfMemory> {
+pub(crate) fn reply_of<P: Pair>(infos: &[Info<P>]) -> Result<Vec<u8>, OutOfMemory> {
     let mut frame = Vec::new();
     frame.try_reserve(1)?;
     frame.push(PEERS_PREFIX);
@@ -66,7 +67,7 @@ pub(crate) fn reply_of(infos: &[Info]) -> Result<Vec<u8>, OutOfMemory> {
     Ok(frame)
 }
 
-impl Payload {
+impl<P: Pair> Payload<P> {
     /// The encoding of the payload, which is a frame.
     ///
     /// # Panics
@@ -147,7 +148,7 @@ impl Payload {
     /// let padded = [2, 5, 9, 0xff, 3];
     /// assert_eq!(Payload::decode(&padded, &limits), Err(CodecError::Invalid(What::Padding)));
     /// ```
-    pub fn decode(frame: &[u8], limits: &PayloadConfig) -> Result<Payload, CodecError> {
+    pub fn decode(frame: &[u8], limits: &PayloadConfig) -> Result<Payload<P>, CodecError> {
         let mut reader = Reader::new(frame);
         let payload = Payload::read(&mut reader, limits).map_err(ReadError::fault)?;
         reader.end()?;
@@ -158,7 +159,7 @@ impl Payload {
     /// written with its length, and with its timestamp in eight bytes in place of at least one.
     pub(crate) fn room_to_check(frame: &[u8]) -> usize {
         match frame.first() {
-            Some(&PEERS_PREFIX) => frame.len() + frame.len() / MIN_INFO_SIZE * 15 + 8,
+            Some(&PEERS_PREFIX) => frame.len() + frame.len() / min_info_size::<P>() * 15 + 8,
             _ => 0,
         }
     }
@@ -176,7 +177,7 @@ impl Payload {
         matches!(frame.first(), Some(&(GREETING_PREFIX | PEERS_PREFIX)))
     }
 
-    fn read(reader: &mut Reader<'_>, limits: &PayloadConfig) -> Result<Payload, ReadError> {
+    fn read(reader: &mut Reader<'_>, limits: &PayloadConfig) -> Result<Payload<P>, ReadError> {
         Ok(match reader.byte()? {
             DATA_PREFIX => Payload::Data(Data::read(reader, limits.max_data_length as u64)?),
             GREETING_PREFIX => Payload::Greeting(Info::read(reader)?),

@@ -2,7 +2,8 @@
 //! next call.
 
 use super::super::Session;
-use super::super::key::Key;
+use super::super::pair::Pair;
+use super::super::session::Calls;
 use crate::answer::{is_true, unknown};
 use crate::error::OutOfMemory;
 use std::cell::Cell;
@@ -14,43 +15,48 @@ use std::sync::{Mutex, MutexGuard, PoisonError};
 /// Reservations and the directory share it, and any of them may outlive the others. Rust has no
 /// shared pointer with fallible allocation, so slots are never freed: the slot of a directory that
 /// was dropped is used by the next one that is created.
-struct Slot {
+struct Slot<P: Pair> {
     // How many keys there are. It is read without the lock.
     count: AtomicUsize,
-    left: Mutex<Left>,
+    left: Mutex<Left<P>>,
 }
 
-struct Left {
+struct Left<P: Pair> {
     // The directory that uses the slot at present.
     directory: u64,
     // It has capacity for a key of each reservation that is held.
-    peers: Vec<Key>,
+    peers: Vec<P::Key>,
 }
 
 /// The slots that no directory uses, with capacity for all that were created.
-struct Spare {
-    slots: Vec<&'static Slot>,
+pub struct Spare<P: Pair> {
+    slots: Vec<&'static Slot<P>>,
     made: usize,
 }
 
-static SPARE: Mutex<Spare> = Mutex::new(Spare {
-    slots: Vec::new(),
-    made: 0,
-});
-
 static NEXT_ID: AtomicU64 = AtomicU64::new(0);
+
+impl<P: Pair> Spare<P> {
+    /// No slot was created yet.
+    pub(crate) const fn none() -> Spare<P> {
+        Spare {
+            slots: Vec::new(),
+            made: 0,
+        }
+    }
+}
 
 /// The directory of a reservation, to which it is given back.
 #[derive(Clone, Copy)]
-pub(super) struct Origin {
-    slot: &'static Slot,
+pub(super) struct Origin<P: Pair> {
+    slot: &'static Slot<P>,
     directory: u64,
 }
 
 /// A session with its reservations, which is used through [`Held::session`] alone.
-pub(super) struct Held {
-    session: Session,
-    origin: Origin,
+pub(super) struct Held<P: Pair> {
+    session: Session<P>,
+    origin: Origin<P>,
     // How many reservations were granted and not released.
     count: Cell<usize>,
     // For how many reservations the slot has capacity.
@@ -62,8 +68,8 @@ fn locked<T>(mutex: &Mutex<T>) -> MutexGuard<'_, T> {
     mutex.lock().unwrap_or_else(PoisonError::into_inner)
 }
 
-impl Slot {
-    fn made() -> Result<&'static Slot, OutOfMemory> {
+impl<P: Pair> Slot<P> {
+    fn made() -> Result<&'static Slot<P>, OutOfMemory> {
         let mut one = Vec::new();
         one.try_reserve_exact(1)?;
         one.push(Slot {
@@ -76,8 +82,8 @@ impl Slot {
         Ok(&one.leak()[0])
     }
 
-    fn taken() -> Result<&'static Slot, OutOfMemory> {
-        let mut spare = locked(&SPARE);
+    fn taken() -> Result<&'static Slot<P>, OutOfMemory> {
+        let mut spare = locked(P::spare());
         if let Some(slot) = spare.slots.pop() {
             return Ok(slot);
         }
@@ -89,7 +95,7 @@ impl Slot {
     }
 
     // Takes a key of a dropped reservation.
-    fn take_left(&self) -> Option<Key> {
+    fn take_left(&self) -> Option<P::Key> {
         let mut left = locked(&self.left);
         let peer = left.peers.pop();
         self.count.store(left.peers.len(), Ordering::Relaxed);
@@ -104,12 +110,12 @@ impl Slot {
             peers: Vec::new(),
         };
         self.count.store(0, Ordering::Relaxed);
-        locked(&SPARE).slots.push(self);
+        locked(P::spare()).slots.push(self);
     }
 }
 
-impl Origin {
-    fn of_new_directory() -> Result<Origin, OutOfMemory> {
+impl<P: Pair> Origin<P> {
+    fn of_new_directory() -> Result<Origin<P>, OutOfMemory> {
         let slot = Slot::taken()?;
         let directory = NEXT_ID.fetch_add(1, Ordering::Relaxed);
         locked(&slot.left).directory = directory;
@@ -124,7 +130,7 @@ impl Origin {
 
     /// Leaves a dropped reservation to its directory, unless that was dropped. It doesn't allocate:
     /// there is capacity for it.
-    pub(super) fn leave(self, peer: Key) {
+    pub(super) fn leave(self, peer: P::Key) {
         let mut left = locked(&self.slot.left);
         if left.directory == self.directory {
             left.peers.push(peer);
@@ -133,8 +139,8 @@ impl Origin {
     }
 }
 
-impl Held {
-    pub(super) fn new(session: Session) -> Result<Held, OutOfMemory> {
+impl<P: Pair> Held<P> {
+    pub(super) fn new(session: Session<P>) -> Result<Held<P>, OutOfMemory> {
         Ok(Held {
             session,
             origin: Origin::of_new_directory()?,
@@ -144,7 +150,7 @@ impl Held {
     }
 
     #[inline]
-    pub(super) fn origin(&self) -> Origin {
+    pub(super) fn origin(&self) -> Origin<P> {
         self.origin
     }
 
@@ -153,7 +159,7 @@ impl Held {
     /// If a thread saw that a reservation was dropped, on whichever thread, it also sees its count
     /// here.
     #[inline]
-    pub(super) fn session(&self) -> &Session {
+    pub(super) fn session(&self) -> &Session<P> {
         if self.origin.slot.count.load(Ordering::Relaxed) != 0 {
             self.release_left();
         }
@@ -166,7 +172,7 @@ impl Held {
     fn release_left(&self) {
         while let Some(peer) = self.origin.slot.take_left() {
             self.count.set(self.count.get() - 1);
-            release(&self.session, &peer);
+            release::<P>(&self.session, &peer);
         }
     }
 
@@ -178,7 +184,10 @@ impl Held {
 
     /// Requests a grant, after making space for the drop of its reservation.
     #[inline]
-    pub(super) fn grant(&mut self, ask: impl FnOnce(&Session) -> u64) -> Result<bool, OutOfMemory> {
+    pub(super) fn grant(
+        &mut self,
+        ask: impl FnOnce(&Session<P>) -> u64,
+    ) -> Result<bool, OutOfMemory> {
         self.session();
         if self.count.get() == self.room {
             self.make_room()?;
@@ -199,21 +208,21 @@ impl Held {
 
     /// Releases a reservation that is of this session and was not dropped.
     #[inline]
-    pub(super) fn release(&self, peer: &Key) {
-        release(self.session(), peer);
+    pub(super) fn release(&self, peer: &P::Key) {
+        release::<P>(self.session(), peer);
         self.count.set(self.count.get() - 1);
     }
 }
 
 #[inline]
-fn release(session: &Session, peer: &Key) {
-    match session.release(peer.as_bytes()) {
+fn release<P: Pair>(session: &Session<P>, peer: &P::Key) {
+    match session.release(peer.as_ref()) {
         1 => {}
         other => unknown(other),
     }
 }
 
-impl Drop for Held {
+impl<P: Pair> Drop for Held<P> {
     fn drop(&mut self) {
         self.origin.slot.put_back();
     }

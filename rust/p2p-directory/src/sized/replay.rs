@@ -1,7 +1,8 @@
 //! Makes recorded calls anew, on another session.
 // Written by tools/exports.sh from tools/exports/session.table.
 
-use super::exports::Session;
+use super::pair::{Pair, Sealed};
+use super::session::Calls;
 use crate::record::{Answer, Arguments, Call, MOST_ROOM, ReplayError};
 
 /// A session on which the calls of a log are made anew.
@@ -11,13 +12,13 @@ use crate::record::{Answer, Arguments, Call, MOST_ROOM, ReplayError};
 /// ```
 /// assert!(p2p_directory::Replay::new().is_some());
 /// ```
-pub struct Replay {
-    session: Session,
+pub struct Replay<P: Pair> {
+    session: <P as Sealed>::Calls,
     // How many bytes a call may ask for.
     most: u64,
 }
 
-impl Replay {
+impl<P: Pair> Replay<P> {
     /// A session with no node, or `None` if the allocation fails. It refuses a call that asks for
     /// more than [`MOST_ROOM`] bytes.
     ///
@@ -26,7 +27,7 @@ impl Replay {
     /// ```
     /// assert!(p2p_directory::Replay::new().is_some());
     /// ```
-    pub fn new() -> Option<Replay> {
+    pub fn new() -> Option<Replay<P>> {
         Replay::with_room(MOST_ROOM)
     }
 
@@ -39,9 +40,9 @@ impl Replay {
     /// ```
     /// assert!(p2p_directory::Replay::with_room(1 << 30).is_some());
     /// ```
-    pub fn with_room(most: u64) -> Option<Replay> {
+    pub fn with_room(most: u64) -> Option<Replay<P>> {
         Some(Replay {
-            session: Session::new()?,
+            session: Calls::new()?,
             most,
         })
     }

@@ -1,17 +1,12 @@
 //! Malformed requests: each is refused with its own number, nothing changes, and the buffer for the
 //! result stays as it was.
 
-use super::directory::Directory;
-use super::exports::Session;
-use super::info::{Info, read_infos};
-use super::key::{KEY_SIZE, Key, LEAST_FIRST};
-use super::payload::Payload;
-use super::sets::OrderedSet;
-use super::testing;
-use crate::codec::Reader;
-use crate::config::PayloadConfig;
-use crate::data::BitVec;
-use crate::ingress::{Hostname, Ingress};
+use super::LEAST_FIRST;
+use crate::exports::Session;
+use crate::pair::testing;
+use crate::pair::{
+    Directory, Hostname, Info, Ingress, KEY_SIZE, Key, Moment, OrderedSet, Payload, PayloadConfig,
+};
 use p2p_directory_sys::{
     BAD_BITS, BAD_INFO, BAD_KEY, BAD_KEYS, BAD_MOMENT, BAD_SETTING, BAD_VERDICTS, NO_NODE, NO_ROOM,
 };
@@ -211,21 +206,28 @@ fn request_with_lists(
     }
 }
 
-// Returns the bytes, or others if they happen to encode infos.
-fn no_infos(bytes: Vec<u8>) -> Vec<u8> {
-    let mut reader = Reader::new(&bytes);
-    match read_infos(&mut reader, u64::MAX).and_then(|_| Ok(reader.end()?)) {
-        Ok(()) => vec![1],
+// Returns the bytes, or others if they are what follows this prefix in a frame.
+fn no_value(prefix: u8, bytes: Vec<u8>) -> Vec<u8> {
+    const UNLIMITED: PayloadConfig = PayloadConfig {
+        max_bit_vec: u32::MAX as u64,
+        max_peers: usize::MAX,
+        max_data_length: 0,
+    };
+    let frame = [&[prefix], &bytes[..]].concat();
+    match Payload::decode(&frame, &UNLIMITED) {
+        Ok(_) => vec![1],
         Err(_) => bytes,
     }
 }
 
+// Bytes that encode no infos: the prefix 3 begins a frame of infos.
+fn no_infos(bytes: Vec<u8>) -> Vec<u8> {
+    no_value(3, bytes)
+}
+
+// Bytes that encode no bit set: the prefix 2 begins a frame of one.
 fn no_bits(bytes: Vec<u8>) -> Vec<u8> {
-    let mut reader = Reader::new(&bytes);
-    match BitVec::read(&mut reader, u64::from(u32::MAX)).and_then(|_| Ok(reader.end()?)) {
-        Ok(()) => vec![1],
-        Err(_) => bytes,
-    }
+    no_value(2, bytes)
 }
 
 #[test]
@@ -254,10 +256,11 @@ fn bootstrappers(bytes: &[u8]) -> Option<BTreeSet<Key>> {
     let mut keys = BTreeSet::new();
     let mut rest = bytes;
     while !rest.is_empty() {
-        let mut reader = Reader::new(rest);
-        keys.insert(Key::read(&mut reader).ok()?);
-        Ingress::read(&mut reader).ok()?;
-        rest = reader.rest();
+        let (key, after) = rest.split_at_checked(KEY_SIZE)?;
+        keys.insert(Key::try_from(key).ok()?);
+        let encodes = |length: &usize| Ingress::decode(&after[..*length]).is_ok();
+        let length = (1..=after.len()).find(encodes)?;
+        rest = &after[length..];
     }
     Some(keys)
 }
@@ -308,7 +311,7 @@ fn handles_come_and_go() {
         assert!(directory.track(round, &peers).unwrap().accepted().is_some());
         let infos: Vec<Info> = (1..=40).map(|number| testing::info(number, 5)).collect();
         directory.update_peers(&infos).unwrap();
-        let now = crate::Moment::from_secs(1);
+        let now = Moment::from_secs(1);
         let held = directory.dial(&testing::key(1), now, Duration::ZERO);
         assert!(held.unwrap().is_some());
         // It is dropped with its open reservations, on another thread.

@@ -2,9 +2,9 @@
 
 use super::Session;
 use super::info::{Info, try_write_infos};
-use super::key::{KEY_SIZE, Key};
+use super::pair::Pair;
+use super::session::Calls;
 use super::sets::{OrderedSet, Tracked, TrackedPeers};
-use super::signature::SIGNATURE_SIZE;
 use crate::answer::{Kind, OWN, Room, answered, certain, is_certain, is_done, is_true, unknown};
 use crate::codec::{ReadError, Reader};
 use crate::config::{Config, Limits, is_supported};
@@ -24,6 +24,7 @@ mod questions;
 mod reservation;
 
 use held::Held;
+pub use held::Spare;
 pub use reservation::{Metadata, ReleaseError, Reservation};
 
 /// The latest peer set, and the peers of all retained sets.
@@ -42,13 +43,13 @@ pub use reservation::{Metadata, ReleaseError, Reservation};
 /// ```
 #[derive(Clone, Debug, PartialEq, Eq, Hash)]
 #[non_exhaustive]
-pub struct PeerSetUpdate {
+pub struct PeerSetUpdate<P: Pair> {
     /// The index of the latest set.
     pub index: u64,
     /// The peers of the latest set.
-    pub latest: TrackedPeers,
+    pub latest: TrackedPeers<P>,
     /// The peers of all retained sets. A peer that is primary in one of them is primary only.
-    pub all: TrackedPeers,
+    pub all: TrackedPeers<P>,
 }
 
 /// The peers that may be dialled at a time, and when to ask again.
@@ -59,14 +60,24 @@ pub struct PeerSetUpdate {
 /// # use p2p_directory::Dialable;
 /// assert_eq!(Dialable::default().next_query_at, None);
 /// ```
-#[derive(Clone, Debug, Default, PartialEq, Eq, Hash)]
+#[derive(Clone, Debug, PartialEq, Eq, Hash)]
 #[non_exhaustive]
-pub struct Dialable {
+pub struct Dialable<P: Pair> {
     /// The peers that may be dialled, in ascending order.
-    pub peers: Vec<Key>,
+    pub peers: Vec<P::Key>,
     /// When to ask again. Without calls in between, `peers` stays the same before that time, or
     /// forever if this is `None`.
     pub next_query_at: Option<Moment>,
+}
+
+impl<P: Pair> Default for Dialable<P> {
+    /// No peers, and no time to ask again.
+    fn default() -> Dialable<P> {
+        Dialable {
+            peers: Vec::new(),
+            next_query_at: None,
+        }
+    }
 }
 
 /// The directory of peers. It has the retained sets, and a record of each peer that is in one of
@@ -123,8 +134,8 @@ pub struct Dialable {
 /// fn is_shared<T: Sync>() {}
 /// is_shared::<p2p_directory::Directory>();
 /// ```
-pub struct Directory {
-    held: Held,
+pub struct Directory<P: Pair> {
+    held: Held<P>,
     // The namespace in which infos are signed.
     namespace: Vec<u8>,
     // Buffers for the arguments and the results of calls.
@@ -139,7 +150,7 @@ pub struct Directory {
 /// changes something, except `track`.
 const FIRST_ROOM: usize = 512;
 
-impl Directory {
+impl<P: Pair> Directory<P> {
     /// Creates a directory that retains no set and blocks nobody.
     ///
     /// If a key occurs twice among the bootstrappers, the later one counts. The local info replaces
@@ -168,11 +179,11 @@ impl Directory {
     /// # Ok::<(), SetupError>(())
     /// ```
     pub fn init(
-        bootstrappers: &[(Key, Ingress)],
-        myself: &Info,
+        bootstrappers: &[(P::Key, Ingress)],
+        myself: &Info<P>,
         cfg: Config,
-    ) -> Result<Directory, SetupError> {
-        let session = new_session()?;
+    ) -> Result<Directory<P>, SetupError> {
+        let session = new_session::<P>()?;
         Directory::with_limits(session, bootstrappers, myself, &cfg, Limits::none())
     }
 
@@ -195,24 +206,24 @@ impl Directory {
     /// ```
     #[cfg(feature = "record")]
     pub fn init_recorded(
-        bootstrappers: &[(Key, Ingress)],
-        myself: &Info,
+        bootstrappers: &[(P::Key, Ingress)],
+        myself: &Info<P>,
         cfg: Config,
         recorder: Recorder,
-    ) -> Result<Directory, SetupError> {
-        let session = new_session()?;
+    ) -> Result<Directory<P>, SetupError> {
+        let session = new_session::<P>()?;
         session.record(recorder);
         Directory::with_limits(session, bootstrappers, myself, &cfg, Limits::none())
     }
 
     pub(crate) fn with_limits(
-        session: Session,
-        bootstrappers: &[(Key, Ingress)],
-        myself: &Info,
+        session: Session<P>,
+        bootstrappers: &[(P::Key, Ingress)],
+        myself: &Info<P>,
         cfg: &Config,
         limits: Limits,
-    ) -> Result<Directory, SetupError> {
-        let spelled = spelled(bootstrappers)?;
+    ) -> Result<Directory<P>, SetupError> {
+        let spelled = spelled::<P>(bootstrappers)?;
         let mut own = Vec::new();
         myself.try_write(&mut own)?;
         let output = Room::new(FIRST_ROOM)?;
@@ -277,14 +288,22 @@ impl Directory {
     /// # directory.release(reservation).expect("its own");
     /// # Ok::<(), OutOfMemory>(())
     /// ```
-    pub fn track(&mut self, index: u64, peers: &TrackedPeers) -> Result<Tracked, OutOfMemory> {
+    pub fn track(
+        &mut self,
+        index: u64,
+        peers: &TrackedPeers<P>,
+    ) -> Result<Tracked<P>, OutOfMemory> {
         let tracked = self.try_track(index, peers);
         give_back_large(self.input.get_mut());
         self.output.get_mut().give_back();
         tracked
     }
 
-    fn try_track(&mut self, index: u64, peers: &TrackedPeers) -> Result<Tracked, OutOfMemory> {
+    fn try_track(
+        &mut self,
+        index: u64,
+        peers: &TrackedPeers<P>,
+    ) -> Result<Tracked<P>, OutOfMemory> {
         let keys = self.input.get_mut();
         keys.clear();
         peers.primary.write(keys)?;
@@ -340,16 +359,16 @@ impl Directory {
     #[inline]
     pub fn dial(
         &mut self,
-        peer: &Key,
+        peer: &P::Key,
         now: Moment,
         draw: Duration,
-    ) -> Result<Option<Reservation>, OutOfMemory> {
+    ) -> Result<Option<Reservation<P>>, OutOfMemory> {
         let (seconds, nanos) = now.parts();
         let (draw_seconds, draw_nanos) = (draw.as_secs(), draw.subsec_nanos());
         // There is space for the longest name before anything is granted.
         self.name.try_reserve_exact(MAX_HOSTNAME)?;
         let is_granted = self.held.grant(|session| {
-            session.dial(peer.as_bytes(), seconds, nanos, draw_seconds, draw_nanos)
+            session.dial(peer.as_ref(), seconds, nanos, draw_seconds, draw_nanos)
         })?;
         if !is_granted {
             return Ok(None);
@@ -361,9 +380,9 @@ impl Directory {
     // The address of a granted dial. It doesn't allocate, since `name` has the capacity for the
     // longest.
     #[inline]
-    fn dialled(&mut self, peer: &Key) -> Ingress {
+    fn dialled(&mut self, peer: &P::Key) -> Ingress {
         let out = &mut self.address;
-        let length = certain(self.held.session().reservation(peer.as_bytes(), out));
+        let length = certain(self.held.session().reservation(peer.as_ref(), out));
         let mut reader = Reader::new(&out[..length as usize]);
         match reader.byte().expect(OWN) {
             1 => Ingress::read_into(&mut self.name, &mut reader).expect(OWN),
@@ -401,14 +420,14 @@ impl Directory {
     #[inline]
     pub fn listen(
         &mut self,
-        peer: &Key,
+        peer: &P::Key,
         now: Moment,
         draw: Duration,
-    ) -> Result<Option<Reservation>, OutOfMemory> {
+    ) -> Result<Option<Reservation<P>>, OutOfMemory> {
         let (seconds, nanos) = now.parts();
         let (draw_seconds, draw_nanos) = (draw.as_secs(), draw.subsec_nanos());
         let is_granted = self.held.grant(|session| {
-            session.listen(peer.as_bytes(), seconds, nanos, draw_seconds, draw_nanos)
+            session.listen(peer.as_ref(), seconds, nanos, draw_seconds, draw_nanos)
         })?;
         Ok(is_granted.then(|| Reservation::new(Metadata::Listener(*peer), self.held.origin())))
     }
@@ -428,8 +447,8 @@ impl Directory {
     /// assert_eq!(directory.connect(&testing::key(1), false), Err(NotReservedError));
     /// ```
     #[inline]
-    pub fn connect(&mut self, peer: &Key, dialer: bool) -> Result<(), NotReservedError> {
-        match self.session().connect(peer.as_bytes(), dialer) {
+    pub fn connect(&mut self, peer: &P::Key, dialer: bool) -> Result<(), NotReservedError> {
+        match self.session().connect(peer.as_ref(), dialer) {
             NOT_RESERVED => Err(NotReservedError),
             1 => Ok(()),
             other => unknown(other),
@@ -460,7 +479,7 @@ impl Directory {
     /// # Ok::<(), Box<dyn std::error::Error>>(())
     /// ```
     #[inline]
-    pub fn connect_reserved(&mut self, reservation: &Reservation) -> Result<(), ConnectError> {
+    pub fn connect_reserved(&mut self, reservation: &Reservation<P>) -> Result<(), ConnectError> {
         if !reservation.is_of(self.held.origin()) {
             return Err(ConnectError::OfAnotherDirectory);
         }
@@ -494,7 +513,7 @@ impl Directory {
     #[inline]
     // The error gives the reservation back, which has the key.
     #[allow(clippy::result_large_err)]
-    pub fn release(&mut self, reservation: Reservation) -> Result<(), ReleaseError> {
+    pub fn release(&mut self, reservation: Reservation<P>) -> Result<(), ReleaseError<P>> {
         if !reservation.is_of(self.held.origin()) {
             return Err(ReleaseError { reservation });
         }
@@ -527,7 +546,7 @@ impl Directory {
     /// assert_eq!(directory.dialable(Moment::from_secs(1))?.peers, [peer]);
     /// # Ok::<(), OutOfMemory>(())
     /// ```
-    pub fn update_peers(&mut self, infos: &[Info]) -> Result<(), OutOfMemory> {
+    pub fn update_peers(&mut self, infos: &[Info<P>]) -> Result<(), OutOfMemory> {
         let spelled = self.input.get_mut();
         spelled.clear();
         let is_taken = try_write_infos(spelled, infos)
@@ -558,9 +577,9 @@ impl Directory {
     /// # Ok::<(), OutOfMemory>(())
     /// ```
     #[inline]
-    pub fn block(&mut self, peer: &Key, now: Moment) -> Result<bool, OutOfMemory> {
+    pub fn block(&mut self, peer: &P::Key, now: Moment) -> Result<bool, OutOfMemory> {
         let (seconds, nanos) = now.parts();
-        is_true(self.session().block(peer.as_bytes(), seconds, nanos))
+        is_true(self.session().block(peer.as_ref(), seconds, nanos))
     }
 
     /// Ends the blocks that last until the time `now` or an earlier one, and returns whether there
@@ -645,7 +664,7 @@ impl Directory {
 
     // The session, after each dropped reservation is released.
     #[inline]
-    pub(crate) fn session(&self) -> &Session {
+    pub(crate) fn session(&self) -> &Session<P> {
         self.held.session()
     }
 
@@ -662,7 +681,7 @@ impl Directory {
     // local node, as far as a buffer of this size is kept.
     pub(crate) fn room_for_infos(&self, bits: usize) -> usize {
         let shared = bits.min(self.held.count() + 1);
-        let room = shared.saturating_mul(Info::max_encode_size());
+        let room = shared.saturating_mul(Info::<P>::max_encode_size());
         room.saturating_add(FIRST_ROOM).min(MOST_KEPT)
     }
 
@@ -671,7 +690,7 @@ impl Directory {
         &self,
         kind: Kind,
         room: usize,
-        ask: impl Fn(&Session, &mut [u8]) -> u64,
+        ask: impl Fn(&Session<P>, &mut [u8]) -> u64,
         read: impl FnOnce(&[u8]) -> Result<T, ReadError>,
     ) -> Result<Option<T>, OutOfMemory> {
         let session = self.session();
@@ -683,7 +702,7 @@ impl Directory {
     fn question<T>(
         &self,
         kind: Kind,
-        ask: impl Fn(&Session, &mut [u8]) -> u64,
+        ask: impl Fn(&Session<P>, &mut [u8]) -> u64,
         read: impl FnOnce(&[u8]) -> Result<T, ReadError>,
     ) -> Result<Option<T>, OutOfMemory> {
         self.question_in(kind, 0, ask, read)
@@ -692,7 +711,7 @@ impl Directory {
     // Calls the library for a short result. It doesn't allocate.
     fn certain_question<T>(
         &self,
-        ask: impl FnOnce(&Session, &mut [u8]) -> u64,
+        ask: impl FnOnce(&Session<P>, &mut [u8]) -> u64,
         read: impl FnOnce(&[u8]) -> Result<T, CodecError>,
     ) -> Option<T> {
         let mut out = [0; 16];
@@ -703,34 +722,34 @@ impl Directory {
 
 /// Formats the sizes of keys and signatures, and how many reservations are out, dropped ones that
 /// aren't released yet among them. It makes no call, so it stands in no log and releases nothing.
-impl fmt::Debug for Directory {
+impl<P: Pair> fmt::Debug for Directory<P> {
     fn fmt(&self, f: &mut fmt::Formatter<'_>) -> fmt::Result {
         f.debug_struct("Directory")
-            .field("key_size", &KEY_SIZE)
-            .field("signature_size", &SIGNATURE_SIZE)
+            .field("key_size", &P::KEY_SIZE)
+            .field("signature_size", &P::SIGNATURE_SIZE)
             .field("reservations", &self.held.count())
             .finish_non_exhaustive()
     }
 }
 
 /// A session with no node, if the processor has what the library needs.
-pub(super) fn new_session() -> Result<Session, SetupError> {
+pub(super) fn new_session<P: Pair>() -> Result<Session<P>, SetupError> {
     match is_supported() {
-        true => Ok(Session::new().ok_or(OutOfMemory)?),
+        true => Ok(Session::<P>::new().ok_or(OutOfMemory)?),
         false => Err(SetupError::Processor),
     }
 }
 
 // The encoding of bootstrappers: keys and ingresses, one after the other.
-fn spelled(bootstrappers: &[(Key, Ingress)]) -> Result<Vec<u8>, OutOfMemory> {
+fn spelled<P: Pair>(bootstrappers: &[(P::Key, Ingress)]) -> Result<Vec<u8>, OutOfMemory> {
     let sizes = bootstrappers.iter();
     let size: usize = sizes
-        .map(|(_, ingress)| KEY_SIZE + ingress.encode_size())
+        .map(|(_, ingress)| P::KEY_SIZE + ingress.encode_size())
         .sum();
     let mut spelled = Vec::new();
     spelled.try_reserve_exact(size)?;
     for (key, ingress) in bootstrappers {
-        spelled.extend_from_slice(key.as_bytes());
+        spelled.extend_from_slice(key.as_ref());
         ingress.write(&mut spelled);
     }
     Ok(spelled)

@@ -3,8 +3,9 @@
 use super::Session;
 use super::directory::{Directory, new_session};
 use super::info::Info;
-use super::key::Key;
+use super::pair::{Pair, Private};
 use super::payload::{Payload, greeting_of, reply_of};
+use super::session::Calls;
 use super::sets::{Tracked, TrackedPeers};
 use super::verification::{
     Judged, NOTHING_TOLD, Question, Questions, ReceiveError, read_told, write_verdicts,
@@ -32,11 +33,11 @@ use std::time::Duration;
 /// assert_eq!(setup.namespace, testing::NAMESPACE);
 /// ```
 #[derive(Clone, Debug)]
-pub struct Setup {
+pub struct Setup<P: Pair> {
     /// The bootstrappers. If a key occurs twice, the later one counts.
-    pub bootstrappers: Vec<(Key, Ingress)>,
+    pub bootstrappers: Vec<(P::Key, Ingress)>,
     /// The local info.
-    pub myself: Info,
+    pub myself: Info<P>,
     /// The settings of its directory.
     pub cfg: Config,
     /// The limits under which it decodes frames.
@@ -81,7 +82,7 @@ pub struct Setup {
 #[derive(Clone, Debug, PartialEq, Eq, Hash)]
 #[must_use = "a reply has to be sent back, and the key of a greeting compared"]
 #[non_exhaustive]
-pub enum Received {
+pub enum Received<P: Pair> {
     /// A message on a channel. Nothing has changed.
     Data {
         /// The channel.
@@ -91,7 +92,7 @@ pub enum Received {
     },
     /// The info of a greeting was applied. This is its key. The node doesn't know the peer of the
     /// connection, so the host must compare the two.
-    Greeted(Key),
+    Greeted(P::Key),
     /// A frame with the infos for the bits that were received: send it back. It has all of them,
     /// however many the peer accepts at a time. [`Node::reply_at_most`] returns fewer. Nothing has
     /// changed.
@@ -109,7 +110,7 @@ pub enum Received {
     Memory,
 }
 
-impl Received {
+impl<P: Pair> Received<P> {
     /// Returns itself if the frame was accepted, and otherwise the reason why it was refused.
     ///
     /// # Errors
@@ -129,7 +130,7 @@ impl Received {
     /// }
     /// # Ok::<(), RefusedError>(())
     /// ```
-    pub fn accepted(self) -> Result<Received, RefusedError> {
+    pub fn accepted(self) -> Result<Received<P>, RefusedError> {
         match self {
             Received::Data { .. }
             | Received::Greeted(_)
@@ -181,9 +182,9 @@ impl Received {
 /// is_shared::<p2p_directory::Node>();
 /// ```
 #[derive(Debug)]
-pub struct Node {
-    directory: Directory,
-    public_key: Key,
+pub struct Node<P: Pair> {
+    directory: Directory<P>,
+    public_key: P::Key,
     greeting: Vec<u8>,
     // The number of the directory that was created with the limits of this node.
     id: u64,
@@ -199,7 +200,7 @@ pub struct Node {
 /// changes something.
 const FIRST_ROOM: usize = 4096;
 
-impl Node {
+impl<P: Pair> Node<P> {
     /// Creates a node with a new directory. It keeps copies of the namespace and the local info.
     ///
     /// # Errors
@@ -218,8 +219,8 @@ impl Node {
     /// setup.payload.max_bit_vec = 1 << 32;
     /// assert_eq!(Node::new(&setup).err(), Some(SetupError::Setting));
     /// ```
-    pub fn new(setup: &Setup) -> Result<Node, SetupError> {
-        Node::in_session(new_session()?, setup)
+    pub fn new(setup: &Setup<P>) -> Result<Node<P>, SetupError> {
+        Node::in_session(new_session::<P>()?, setup)
     }
 
     /// Creates a node as [`Node::new`] does, and records that call and each later one of the node
@@ -239,13 +240,13 @@ impl Node {
     /// # Ok::<(), SetupError>(())
     /// ```
     #[cfg(feature = "record")]
-    pub fn new_recorded(setup: &Setup, recorder: Recorder) -> Result<Node, SetupError> {
-        let session = new_session()?;
+    pub fn new_recorded(setup: &Setup<P>, recorder: Recorder) -> Result<Node<P>, SetupError> {
+        let session = new_session::<P>()?;
         session.record(recorder);
         Node::in_session(session, setup)
     }
 
-    fn in_session(session: Session, setup: &Setup) -> Result<Node, SetupError> {
+    fn in_session(session: Session<P>, setup: &Setup<P>) -> Result<Node<P>, SetupError> {
         let limits = Limits {
             payload: setup.payload,
             peer_gossip_max_count: setup.peer_gossip_max_count,
@@ -282,7 +283,7 @@ impl Node {
     /// assert_eq!(node.public_key(), &testing::key(9));
     /// ```
     #[must_use]
-    pub fn public_key(&self) -> &Key {
+    pub fn public_key(&self) -> &P::Key {
         &self.public_key
     }
 
@@ -311,7 +312,7 @@ impl Node {
     /// assert_eq!(node.directory().latest_set_index(), None);
     /// ```
     #[must_use]
-    pub fn directory(&self) -> &Directory {
+    pub fn directory(&self) -> &Directory<P> {
         &self.directory
     }
 
@@ -332,7 +333,7 @@ impl Node {
     /// # Ok::<(), Box<dyn std::error::Error>>(())
     /// ```
     #[must_use]
-    pub fn directory_mut(&mut self) -> &mut Directory {
+    pub fn directory_mut(&mut self) -> &mut Directory<P> {
         &mut self.directory
     }
 
@@ -366,7 +367,7 @@ impl Node {
     /// assert_eq!(node.directory().latest_set_index(), Some(0));
     /// # Ok::<(), Box<dyn std::error::Error>>(())
     /// ```
-    pub fn track(&mut self, index: u64, peers: &TrackedPeers) -> Result<Tracked, TrackError> {
+    pub fn track(&mut self, index: u64, peers: &TrackedPeers<P>) -> Result<Tracked<P>, TrackError> {
         self.expect_own_directory();
         let (primary, limit) = (peers.primary.len(), self.max_bit_vec);
         if primary as u64 > limit {
@@ -492,8 +493,8 @@ impl Node {
         &mut self,
         frame: &[u8],
         now: Moment,
-        verify: impl FnMut(Question<'_>) -> bool,
-    ) -> Received {
+        verify: impl FnMut(Question<'_, P>) -> bool,
+    ) -> Received<P> {
         self.expect_own_directory();
         let received = self.try_receive(frame, now, verify);
         give_back_large(&mut self.verdicts);
@@ -515,8 +516,8 @@ impl Node {
         &mut self,
         frame: &[u8],
         now: Moment,
-        verify: impl FnMut(Question<'_>) -> bool,
-    ) -> Result<Received, OutOfMemory> {
+        verify: impl FnMut(Question<'_, P>) -> bool,
+    ) -> Result<Received<P>, OutOfMemory> {
         let Node {
             directory,
             verdicts,
@@ -558,7 +559,7 @@ impl Node {
     /// assert_eq!(node.receive_judged(judged).unwrap(), Received::Applied(2));
     /// # Ok::<(), Box<dyn std::error::Error>>(())
     /// ```
-    pub fn check<'f>(&self, frame: &'f [u8], now: Moment) -> Result<Questions<'f>, OutOfMemory> {
+    pub fn check<'f>(&self, frame: &'f [u8], now: Moment) -> Result<Questions<'f, P>, OutOfMemory> {
         self.expect_own_directory();
         let Node { directory, id, .. } = self;
         told(directory, frame, now, |told| {
@@ -589,7 +590,10 @@ impl Node {
     /// assert_eq!(node.receive_judged(judged).unwrap(), Received::Greeted(testing::key(1)));
     /// # Ok::<(), Box<dyn std::error::Error>>(())
     /// ```
-    pub fn receive_judged<'f>(&mut self, judged: Judged<'f>) -> Result<Received, ReceiveError<'f>> {
+    pub fn receive_judged<'f>(
+        &mut self,
+        judged: Judged<'f, P>,
+    ) -> Result<Received<P>, ReceiveError<'f, P>> {
         self.expect_own_directory();
         if judged.node != self.id {
             return Err(ReceiveError { judged });
@@ -610,19 +614,19 @@ impl Node {
 
 // Reads the questions of the library about a frame. There are none if the frame can have no infos,
 // since only these are signed.
-fn told<T>(
-    directory: &Directory,
+fn told<T, P: Pair>(
+    directory: &Directory<P>,
     frame: &[u8],
     now: Moment,
     read: impl FnOnce(&[u8]) -> Result<T, ReadError>,
 ) -> Result<T, OutOfMemory> {
-    if !Payload::is_signed(frame) {
+    if !Payload::<P>::is_signed(frame) {
         return own(read(&NOTHING_TOLD));
     }
     let (seconds, nanos) = now.parts();
     let told = directory.question_in(
         Kind::Frame,
-        Payload::room_to_check(frame),
+        Payload::<P>::room_to_check(frame),
         |session, out| session.check(frame, seconds, nanos, out),
         read,
     )?;
@@ -632,18 +636,18 @@ fn told<T>(
 // The result of the library for a frame with these verification results. The result of a call that
 // changes something fits the initial buffer, so nothing is allocated afterwards. A reply that fits
 // the buffer is computed once.
-fn received(
-    directory: &Directory,
+fn received<P: Pair>(
+    directory: &Directory<P>,
     answer: &mut Room,
     frame: &[u8],
     now: Moment,
     verdicts: &[u8],
-) -> Result<Received, OutOfMemory> {
+) -> Result<Received<P>, OutOfMemory> {
     let (seconds, nanos) = now.parts();
     let session = directory.session();
     let received = answer.asked(
         Kind::Frame,
-        directory.room_for_infos(Payload::most_bits(frame)),
+        directory.room_for_infos(Payload::<P>::most_bits(frame)),
         |out| session.receive(frame, seconds, nanos, verdicts, out),
         |bytes| read_received(bytes, frame.len()),
     )?;
@@ -652,10 +656,10 @@ fn received(
 
 // Writes the verification result of each info, up to the first false one. It is false for the
 // others, and for an info without a question.
-fn judge(
+fn judge<P: Pair>(
     told: &[u8],
     namespace: &[u8],
-    verify: impl FnMut(Question<'_>) -> bool,
+    verify: impl FnMut(Question<'_, P>) -> bool,
     verdicts: &mut Vec<u8>,
 ) -> Result<(), ReadError> {
     let (infos, questions) = read_told(namespace, told)?;
@@ -666,14 +670,14 @@ fn judge(
 }
 
 // Reads the result for a frame of this length.
-fn read_received(bytes: &[u8], frame: usize) -> Result<Received, ReadError> {
+fn read_received<P: Pair>(bytes: &[u8], frame: usize) -> Result<Received<P>, ReadError> {
     let mut reader = Reader::new(bytes);
     Ok(match reader.byte()? {
         0 => Received::Data {
             channel: reader.number()?,
             message: frame - reader.number()? as usize..frame,
         },
-        1 => Received::Greeted(Key::of_library(reader.array()?)),
+        1 => Received::Greeted(P::Key::of_library(reader.take(P::KEY_SIZE)?)),
         2 => Received::Reply(copied(reader.rest())?),
         3 => Received::Applied(reader.number()? as usize),
         4 => Received::Codec(read_fault(&mut reader)?),

@@ -1,7 +1,8 @@
 //! The order of keys.
 
-use super::super::key::{KEY_SIZE, Key, LEAST_FIRST};
+use super::LEAST_FIRST;
 use super::given::{asked, key, session};
+use crate::pair::{KEY_SIZE, Key};
 
 // The keys of a set that was registered with these keys, in the order in which the session keeps
 // them.

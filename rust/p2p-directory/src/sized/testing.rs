@@ -13,9 +13,8 @@
 
 use super::directory::Directory;
 use super::info::Info;
-use super::key::{KEY_SIZE, Key, LEAST_FIRST};
 use super::node::Setup;
-use super::signature::{SIGNATURE_SIZE, Signature};
+use super::pair::{Pair, Private};
 use super::verification::Question;
 use crate::config::{Config, PayloadConfig};
 use crate::ingress::Ingress;
@@ -43,11 +42,11 @@ pub const NAMESPACE: &[u8] = b"testing";
 /// assert!(testing::key(1) < testing::key(256));
 /// ```
 #[must_use]
-pub fn key(number: u16) -> Key {
-    let mut bytes = [0; KEY_SIZE];
-    bytes[0] = LEAST_FIRST;
-    bytes[KEY_SIZE - 2..].copy_from_slice(&number.to_be_bytes());
-    Key::of_library(bytes)
+pub fn key<P: Pair>(number: u16) -> P::Key {
+    P::Key::filled(|bytes| {
+        bytes[0] = P::LEAST_FIRST;
+        bytes[P::KEY_SIZE - 2..].copy_from_slice(&number.to_be_bytes());
+    })
 }
 
 /// The only signature of a key over a namespace and a message. Anybody can create it.
@@ -60,18 +59,18 @@ pub fn key(number: u16) -> Key {
 /// assert_ne!(sign(&key(1), b"net", b"hello"), sign(&key(1), b"net", b"hullo"));
 /// ```
 #[must_use]
-pub fn sign(key: &Key, namespace: &[u8], message: &[u8]) -> Signature {
+pub fn sign<P: Pair>(key: &P::Key, namespace: &[u8], message: &[u8]) -> P::Signature {
     let mut hash: u64 = 0;
-    let mut bytes = [0; SIGNATURE_SIZE];
     let parts = [key.as_ref(), namespace, message];
     for byte in parts.into_iter().flatten() {
         hash = hash.wrapping_mul(257).wrapping_add(u64::from(*byte) + 1);
     }
-    for chunk in bytes.chunks_mut(8) {
-        hash = hash.wrapping_mul(6_364_136_223_846_793_005).wrapping_add(1);
-        chunk.copy_from_slice(&hash.to_be_bytes());
-    }
-    Signature(bytes)
+    P::Signature::filled(|bytes| {
+        for chunk in bytes.chunks_mut(8) {
+            hash = hash.wrapping_mul(6_364_136_223_846_793_005).wrapping_add(1);
+            chunk.copy_from_slice(&hash.to_be_bytes());
+        }
+    })
 }
 
 /// Whether the signature is that of the key over the namespace and the message.
@@ -88,14 +87,14 @@ pub fn sign(key: &Key, namespace: &[u8], message: &[u8]) -> Signature {
 /// assert!(!testing::verify(Question { public_key: testing::key(2), ..question }));
 /// ```
 #[must_use]
-pub fn verify(question: Question<'_>) -> bool {
+pub fn verify<P: Pair>(question: Question<'_, P>) -> bool {
     let Question {
         public_key,
         namespace,
         message,
         signature,
     } = question;
-    sign(&public_key, namespace, message) == signature
+    sign::<P>(&public_key, namespace, message) == signature
 }
 
 /// The info of the key of a number, at the address 1.2.3.4 and the port 8000 plus the number.
@@ -110,7 +109,7 @@ pub fn verify(question: Question<'_>) -> bool {
 /// assert!(info.verify(testing::NAMESPACE, testing::verify));
 /// ```
 #[must_use]
-pub fn info(number: u16, timestamp: u64) -> Info {
+pub fn info<P: Pair>(number: u16, timestamp: u64) -> Info<P> {
     info_at(number, timestamp, 8000 + number)
 }
 
@@ -124,11 +123,11 @@ pub fn info(number: u16, timestamp: u64) -> Info {
 /// assert_eq!(testing::info_at(1, 1000, 80).ingress.port(), 80);
 /// ```
 #[must_use]
-pub fn info_at(number: u16, timestamp: u64, port: u16) -> Info {
+pub fn info_at<P: Pair>(number: u16, timestamp: u64, port: u16) -> Info<P> {
     let ingress = Ingress::from(SocketAddr::from(([1, 2, 3, 4], port)));
-    let key = key(number);
+    let key = key::<P>(number);
     Info::sign(key, NAMESPACE, ingress, timestamp, |namespace, message| {
-        sign(&key, namespace, message)
+        sign::<P>(&key, namespace, message)
     })
 }
 
@@ -163,7 +162,7 @@ pub fn config() -> Config {
 /// assert_eq!(p2p_directory::testing::directory().tracked(), 0);
 /// ```
 #[must_use]
-pub fn directory() -> Directory {
+pub fn directory<P: Pair>() -> Directory<P> {
     Directory::init(&[], &info(9, 0), config()).expect("memory for a directory")
 }
 
@@ -177,7 +176,7 @@ pub fn directory() -> Directory {
 /// assert_eq!(testing::setup(3).myself.public_key, testing::key(3));
 /// ```
 #[must_use]
-pub fn setup(number: u16) -> Setup {
+pub fn setup<P: Pair>(number: u16) -> Setup<P> {
     Setup {
         bootstrappers: Vec::new(),
         myself: info(number, 0),

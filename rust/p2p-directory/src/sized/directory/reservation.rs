@@ -1,6 +1,6 @@
 //! Permission to connect to a peer.
 
-use super::super::key::Key;
+use super::super::pair::Pair;
 use super::held::Origin;
 use crate::ingress::Ingress;
 use std::error;
@@ -34,10 +34,10 @@ use std::fmt;
 /// # Ok::<(), OutOfMemory>(())
 /// ```
 #[must_use = "a reservation that is dropped is released by the next call of its directory"]
-pub struct Reservation {
-    metadata: Metadata,
+pub struct Reservation<P: Pair> {
+    metadata: Metadata<P>,
     // `None` after it was given back.
-    origin: Option<Origin>,
+    origin: Option<Origin<P>>,
 }
 
 /// The peer of a reservation, and the direction of its connection.
@@ -50,11 +50,11 @@ pub struct Reservation {
 /// ```
 #[derive(Clone, Debug, PartialEq, Eq, Hash)]
 #[non_exhaustive]
-pub enum Metadata {
+pub enum Metadata<P: Pair> {
     /// The peer is dialled at this address.
-    Dialer(Key, Ingress),
+    Dialer(P::Key, Ingress),
     /// The peer is inbound.
-    Listener(Key),
+    Listener(P::Key),
 }
 
 /// A reservation that was passed to [`Directory::release`](super::Directory::release) is of another
@@ -78,14 +78,14 @@ pub enum Metadata {
 /// ```
 #[derive(Debug)]
 #[non_exhaustive]
-pub struct ReleaseError {
+pub struct ReleaseError<P: Pair> {
     /// The reservation that was passed.
-    pub reservation: Reservation,
+    pub reservation: Reservation<P>,
 }
 
-impl Reservation {
+impl<P: Pair> Reservation<P> {
     #[inline]
-    pub(super) fn new(metadata: Metadata, origin: Origin) -> Reservation {
+    pub(super) fn new(metadata: Metadata<P>, origin: Origin<P>) -> Reservation<P> {
         Reservation {
             metadata,
             origin: Some(origin),
@@ -112,7 +112,7 @@ impl Reservation {
     /// ```
     #[must_use]
     #[inline]
-    pub fn metadata(&self) -> &Metadata {
+    pub fn metadata(&self) -> &Metadata<P> {
         &self.metadata
     }
 
@@ -133,25 +133,25 @@ impl Reservation {
     /// ```
     #[must_use]
     #[inline]
-    pub fn public_key(&self) -> &Key {
+    pub fn public_key(&self) -> &P::Key {
         self.metadata.public_key()
     }
 
     #[inline]
-    pub(super) fn is_of(&self, directory: Origin) -> bool {
+    pub(super) fn is_of(&self, directory: Origin<P>) -> bool {
         self.origin
             .is_some_and(|origin| origin.id() == directory.id())
     }
 
     /// Returns the peer without giving the reservation back.
     #[inline]
-    pub(super) fn into_peer(mut self) -> Key {
+    pub(super) fn into_peer(mut self) -> P::Key {
         self.origin = None;
         *self.public_key()
     }
 }
 
-impl Drop for Reservation {
+impl<P: Pair> Drop for Reservation<P> {
     #[inline]
     fn drop(&mut self) {
         if let Some(origin) = self.origin {
@@ -160,7 +160,7 @@ impl Drop for Reservation {
     }
 }
 
-impl fmt::Debug for Reservation {
+impl<P: Pair> fmt::Debug for Reservation<P> {
     fn fmt(&self, f: &mut fmt::Formatter<'_>) -> fmt::Result {
         f.debug_struct("Reservation")
             .field("metadata", &self.metadata)
@@ -168,7 +168,7 @@ impl fmt::Debug for Reservation {
     }
 }
 
-impl Metadata {
+impl<P: Pair> Metadata<P> {
     /// The key of the peer.
     ///
     /// # Examples
@@ -179,7 +179,7 @@ impl Metadata {
     /// ```
     #[must_use]
     #[inline]
-    pub fn public_key(&self) -> &Key {
+    pub fn public_key(&self) -> &P::Key {
         match self {
             Metadata::Dialer(key, _) | Metadata::Listener(key) => key,
         }
@@ -191,7 +191,7 @@ impl Metadata {
     }
 }
 
-impl fmt::Display for Metadata {
+impl<P: Pair> fmt::Display for Metadata<P> {
     fn fmt(&self, f: &mut fmt::Formatter<'_>) -> fmt::Result {
         match self {
             Metadata::Dialer(key, ingress) => write!(f, "dialer of {key} at {ingress}"),
@@ -200,11 +200,11 @@ impl fmt::Display for Metadata {
     }
 }
 
-impl fmt::Display for ReleaseError {
+impl<P: Pair> fmt::Display for ReleaseError<P> {
     fn fmt(&self, f: &mut fmt::Formatter<'_>) -> fmt::Result {
         let peer = self.reservation.public_key();
         write!(f, "the reservation of {peer} is of another directory")
     }
 }
 
-impl error::Error for ReleaseError {}
+impl<P: Pair> error::Error for ReleaseError<P> {}

@@ -1,0 +1,6 @@
+//! The exports of the library, called with valid and with invalid requests.
+
+mod session_tests;
+
+use p2p_directory as pair;
+use p2p_directory_sys as exports;
