@@ -3,8 +3,7 @@
 mod calls;
 mod random;
 
-use calls::call::Call;
-use calls::{MOST_CALLS, compare, shrunk};
+use calls::{Call, MOST_CALLS, compare, shrunk};
 // Where another file has this one as a module, the pair of sizes is that of the other.
 #[allow(unused_imports)]
 use p2p_directory as pair;

@@ -1,11 +1,6 @@
 //! Logs of calls: what they have, how they end, and that `p2p-replay` makes their calls anew.
 
 mod calls;
-#[allow(dead_code)]
-#[path = "../src/bin/p2p-replay/fields.rs"]
-mod fields;
-#[path = "calls/modelled.rs"]
-mod modelled;
 #[path = "../examples/play/player/mod.rs"]
 mod player;
 mod random;
@@ -14,9 +9,6 @@ use crate::pair::{
     CodecError, Data, Directory, KEY_SIZE, Key, Moment, Node, OrderedSet, Payload, Received,
     Replay, SIGNATURE_SIZE, testing,
 };
-// The model answers recorded calls by this name.
-use calls::model;
-use modelled::Modelled;
 // Where another file has this one as a module, the pair of sizes is that of the other.
 #[allow(unused_imports)]
 use p2p_directory as pair;
@@ -86,21 +78,6 @@ fn replayed(words: &[&str], file: &Path) -> Output {
         .expect("p2p-replay runs")
 }
 
-/// The same, for words of which `p2p-replay` has all but the first for keys of 32 bytes alone:
-/// `None` if it refuses these words for keys of this size, as it says.
-fn replayed_if_offered(words: &[&str], file: &Path) -> Option<Output> {
-    let output = replayed(words, file);
-    let is_of_32 = |word: &&str| ["--model", "--script", "--play"].contains(word);
-    if KEY_SIZE == 32 || !words.iter().any(is_of_32) {
-        return Some(output);
-    }
-    let told = String::from_utf8_lossy(&output.stderr);
-    let why = format!("keys have {KEY_SIZE} bytes: the model and play have 32");
-    assert!(told.contains(&why), "{words:?}: {told}");
-    assert_eq!(output.status.code(), Some(2), "{words:?}");
-    None
-}
-
 fn said(output: &Output) -> String {
     String::from_utf8_lossy(&output.stdout).into_owned()
 }
@@ -160,21 +137,13 @@ fn the_model_answers_as_the_library_did() {
     for seed in 1..=20 {
         let bytes = random_log(seed);
         let file = Scratch::of(&format!("model-{seed}"), &bytes);
-        if let Some(output) = replayed_if_offered(&["--model"], &file.0) {
-            assert!(
-                output.status.success(),
-                "seed {seed}: {}{}",
-                said(&output),
-                String::from_utf8_lossy(&output.stderr)
-            );
-        }
-        // The same model, for keys of each size.
-        let log = Log::read(bytes).expect("a log");
-        let mut modelled = Modelled::new();
-        for call in log.calls() {
-            let answer = modelled.answer(&call).expect("a call of the model");
-            assert_eq!(answer, call.answer, "seed {seed}: {call:?}");
-        }
+        let output = replayed(&["--model"], &file.0);
+        assert!(
+            output.status.success(),
+            "seed {seed}: {}{}",
+            said(&output),
+            String::from_utf8_lossy(&output.stderr)
+        );
     }
 }
 
@@ -183,17 +152,16 @@ fn play_replies_as_the_library_did() {
     let mut replies = 0;
     for seed in 1..=20 {
         let log = Scratch::of(&format!("script-{seed}"), &random_log(seed));
-        let Some(script) = replayed_if_offered(&["--script"], &log.0) else {
-            continue;
-        };
+        let script = replayed(&["--script"], &log.0);
         assert!(script.status.success());
         let mut otherwise = Vec::new();
-        let tally: Tally = play(&script.stdout[..], &mut otherwise, Mode::Checks).expect("a list");
+        let tally: Tally =
+            play::<calls::Sizes>(&script.stdout[..], &mut otherwise, Mode::Checks).expect("a list");
         let otherwise = String::from_utf8_lossy(&otherwise);
         assert!(tally.is_good(), "seed {seed}: {tally}: {otherwise}");
         replies += tally.expected;
     }
-    assert!(replies > 2_000 || KEY_SIZE != 32, "{replies}");
+    assert!(replies > 2_000, "{replies}");
 }
 
 /// How many bytes a log begins with before its records.
@@ -250,9 +218,7 @@ fn granted(log: &[u8]) -> usize {
 fn differs_at(name: &str, log: &[u8], place: usize) {
     for words in [&[][..], &["--model"]] {
         let file = Scratch::of(name, log);
-        let Some(output) = replayed_if_offered(words, &file.0) else {
-            continue;
-        };
+        let output = replayed(words, &file.0);
         assert_eq!(output.status.code(), Some(1), "{}", said(&output));
         let told = said(&output);
         assert!(
@@ -313,16 +279,14 @@ fn a_call_that_ran_out_of_memory_is_counted_as_not_checked() {
     for way in [&[][..], &["--model"], &["--play"]] {
         let none = [way, &["--unchecked", "0"]].concat();
         for words in [way, &none] {
-            if let Some(output) = replayed_if_offered(words, &file.0) {
-                assert_eq!(output.status.code(), Some(1), "{words:?}");
-                assert!(said(&output).contains(not_checked), "{}", said(&output));
-            }
-        }
-        let many = [way, &["--unchecked", "1000000"]].concat();
-        if let Some(output) = replayed_if_offered(&many, &file.0) {
-            assert!(output.status.success(), "{way:?}: {}", said(&output));
+            let output = replayed(words, &file.0);
+            assert_eq!(output.status.code(), Some(1), "{words:?}");
             assert!(said(&output).contains(not_checked), "{}", said(&output));
         }
+        let many = [way, &["--unchecked", "1000000"]].concat();
+        let output = replayed(&many, &file.0);
+        assert!(output.status.success(), "{way:?}: {}", said(&output));
+        assert!(said(&output).contains(not_checked), "{}", said(&output));
     }
 }
 
@@ -552,9 +516,8 @@ fn of_a_message_the_head_the_length_and_a_checksum_are_recorded() {
         assert_eq!(wanted.bytes(most), refused);
         let file = Scratch::of(&format!("message-{count}"), &bytes);
         for words in [&[][..], &["--model"], &["--play"]] {
-            if let Some(output) = replayed_if_offered(words, &file.0) {
-                assert!(output.status.success(), "{words:?}: {}", said(&output));
-            }
+            let output = replayed(words, &file.0);
+            assert!(output.status.success(), "{words:?}: {}", said(&output));
         }
     }
 }
@@ -582,10 +545,9 @@ fn a_message_that_no_line_of_play_has_room_for_is_counted() {
     let bytes = kept.bytes();
     let file = Scratch::of("long-message", &bytes);
     let told = "3 calls, 2 answered as in the log, 1 without a command of play, not checked";
-    if let Some(output) = replayed_if_offered(&["--play"], &file.0) {
-        assert!(output.status.success(), "{}", said(&output));
-        assert!(said(&output).contains(told), "{}", said(&output));
-    }
+    let output = replayed(&["--play"], &file.0);
+    assert!(output.status.success(), "{}", said(&output));
+    assert!(said(&output).contains(told), "{}", said(&output));
 }
 
 #[test]
@@ -669,9 +631,8 @@ fn calls_without_a_command_of_play_are_counted() {
         (&["--play", "--unchecked", "1"], 0),
         (&["--play", "--unchecked", "0"], 1),
     ] {
-        if let Some(output) = replayed_if_offered(words, &file.0) {
-            assert_eq!(output.status.code(), Some(status), "{words:?}");
-            assert!(said(&output).contains(told), "{}", said(&output));
-        }
+        let output = replayed(words, &file.0);
+        assert_eq!(output.status.code(), Some(status), "{words:?}");
+        assert!(said(&output).contains(told), "{}", said(&output));
     }
 }

@@ -9,6 +9,7 @@ mod player;
 mod widened;
 
 use p2p_directory as pair;
+use p2p_directory::Keys32_64;
 use player::{Mode, Tally, play};
 use std::collections::BTreeMap;
 use std::fs;
@@ -159,7 +160,7 @@ fn scripts() -> Vec<PathBuf> {
 
 fn played(text: &str, mode: Mode) -> (Tally, String) {
     let mut out = Vec::new();
-    let tally = play(text.as_bytes(), &mut out, mode).expect("output is a list");
+    let tally = play::<Keys32_64>(text.as_bytes(), &mut out, mode).expect("output is a list");
     (tally, String::from_utf8(out).expect("output is text"))
 }
 

@@ -7,6 +7,7 @@
 
 mod player;
 
+use p2p_directory::Keys32_64;
 use player::{Mode, Tally, play};
 use std::env;
 use std::fs::File;
@@ -34,7 +35,7 @@ fn follow(words: &[String], out: &mut impl Write) -> io::Result<bool> {
     };
     match files {
         [] => {
-            let tally = play(io::stdin().lock(), out, mode)?;
+            let tally = play::<Keys32_64>(io::stdin().lock(), out, mode)?;
             report(out, mode, "", &tally)
         }
         [word] if word == "--help" => {
@@ -53,7 +54,7 @@ fn play_file(name: &str, out: &mut impl Write, mode: Mode) -> io::Result<bool> {
         writeln!(out, "{name}: not readable, expected a file")?;
         return Ok(false);
     };
-    let tally = play(BufReader::new(file), out, mode)?;
+    let tally = play::<Keys32_64>(BufReader::new(file), out, mode)?;
     report(out, mode, &format!("{name}: "), &tally)
 }
 

@@ -1,6 +1,6 @@
 //! How a list of calls is decoded from bytes.
 
-use super::call::Call;
+use super::Call;
 use crate::pair::testing::{NAMESPACE, key, sign};
 use crate::pair::{
     BitVec, Config, Data, Hostname, Info, Ingress, Key, Moment, Payload, PayloadConfig,

@@ -15,10 +15,26 @@ mod real;
 use crate::pair::Node;
 use crate::pair::testing::verify;
 use crate::pair::{Info, Setup};
-use call::Call;
 use draws::Draws;
 use model::Model;
+use p2p_directory::sized::{self, Pair};
 use real::Real;
+
+/// What has keys and signatures.
+pub trait OfSizes {
+    /// Their sizes.
+    type Sizes: Pair;
+}
+
+impl<P: Pair> OfSizes for sized::Info<P> {
+    type Sizes = P;
+}
+
+/// The sizes of keys and signatures of the program.
+pub type Sizes = <Info as OfSizes>::Sizes;
+
+/// A call with keys of these sizes.
+pub type Call = call::Call<Sizes>;
 
 /// The maximum number of calls in a list.
 #[allow(dead_code)]

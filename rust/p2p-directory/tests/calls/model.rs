@@ -1,10 +1,12 @@
 //! A model of a node: maps and lists, and the results that the specification has for them.
 
 use super::call::Call;
-use crate::pair::{
-    BitVec, CodecError, ConnectError, EncodedData, Error, Info, Ingress, Key, Metadata, Moment,
-    NotReservedError, OrderedSet, OutOfMemory, Payload, Received, Setup, Status, TrackedPeers,
-    ValidateError,
+use p2p_directory::sized::{
+    Info, Metadata, OrderedSet, Pair, Payload, Received, Setup, TrackedPeers,
+};
+use p2p_directory::{
+    BitVec, CodecError, ConnectError, EncodedData, Error, Ingress, Moment, NotReservedError,
+    OutOfMemory, Status, ValidateError,
 };
 use std::collections::{BTreeMap, BTreeSet};
 use std::fmt::Debug;
@@ -24,19 +26,22 @@ struct Cooldown {
     dial: Moment,
 }
 
-pub struct Model {
-    setup: Setup,
-    // All sets that were registered: index, primary, secondary.
-    sets: Vec<(u64, BTreeSet<Key>, BTreeSet<Key>)>,
-    held: BTreeMap<Key, Held>,
-    cooldowns: BTreeMap<Key, Cooldown>,
+/// A set: its index, its primary and its secondary peers.
+type Set<Key> = (u64, BTreeSet<Key>, BTreeSet<Key>);
+
+pub struct Model<P: Pair> {
+    setup: Setup<P>,
+    // All sets that were registered.
+    sets: Vec<Set<P::Key>>,
+    held: BTreeMap<P::Key, Held>,
+    cooldowns: BTreeMap<P::Key, Cooldown>,
     // Infos, and how many of their dials failed.
-    known: BTreeMap<Key, (Info, usize)>,
-    blocks: BTreeMap<Key, Moment>,
+    known: BTreeMap<P::Key, (Info<P>, usize)>,
+    blocks: BTreeMap<P::Key, Moment>,
 }
 
 /// Whether the signature is valid of the info at a place of its frame.
-pub type Validity<'a> = &'a dyn Fn(usize, &Info) -> bool;
+pub type Validity<'a, P> = &'a dyn Fn(usize, &Info<P>) -> bool;
 
 /// To how many infos a reply is cut, with which draw.
 pub const CUTS: [(usize, u64); 6] = [(0, 1), (1, 0), (1, 1), (1, u64::MAX), (2, 2), (9, 1)];
@@ -47,7 +52,7 @@ pub fn shown(answer: impl Debug) -> String {
 }
 
 // The frame with so many of the infos from a position on, wrapping around at the end, or with all.
-fn cut(infos: Vec<Info>, count: usize, draw: u64) -> Vec<u8> {
+fn cut<P: Pair>(infos: Vec<Info<P>>, count: usize, draw: u64) -> Vec<u8> {
     let length = infos.len();
     let chosen = match count < length {
         true => (0..count)
@@ -79,12 +84,12 @@ fn is_global(address: IpAddr) -> bool {
     }
 }
 
-fn ordered(keys: impl IntoIterator<Item = Key>) -> OrderedSet {
+fn ordered<P: Pair>(keys: impl IntoIterator<Item = P::Key>) -> OrderedSet<P> {
     OrderedSet::from_iter_dedup(keys)
 }
 
-impl Model {
-    pub fn new(setup: Setup) -> Model {
+impl<P: Pair> Model<P> {
+    pub fn new(setup: Setup<P>) -> Model<P> {
         Model {
             setup,
             sets: Vec::new(),
@@ -95,7 +100,7 @@ impl Model {
         }
     }
 
-    pub fn answer(&mut self, call: &Call, is_valid: Validity<'_>) -> String {
+    pub fn answer(&mut self, call: &Call<P>, is_valid: Validity<'_, P>) -> String {
         match call {
             Call::Track(index, primary, secondary) => shown(self.track(*index, primary, secondary)),
             Call::Dial(peer, now, draw) => shown(self.grant(peer, *now, *draw, true)),
@@ -130,7 +135,7 @@ impl Model {
         }
     }
 
-    fn answer_question(&self, question: &Call) -> String {
+    fn answer_question(&self, question: &Call<P>) -> String {
         match question {
             Call::NextUnblock => shown(self.next_unblock()),
             Call::BlockedPeers(now) => shown(self.blocked_peers(*now)),
@@ -146,7 +151,10 @@ impl Model {
                 shown((infos, cuts))
             }
             Call::Bits(place) => shown(self.bits(*place)),
-            Call::Ask(place) => shown(self.bits(*place).map(|bits| Payload::BitVec(bits).encode())),
+            Call::Ask(place) => shown(
+                self.bits(*place)
+                    .map(|bits| Payload::<P>::BitVec(bits).encode()),
+            ),
             Call::Eligible(peer, now) => shown(self.is_eligible(peer, *now)),
             Call::Acceptable(peer, now) => {
                 shown(self.is_eligible(peer, *now) && self.status(peer) == Status::Inert)
@@ -168,12 +176,12 @@ impl Model {
         }
     }
 
-    pub fn own(&self) -> Key {
+    pub fn own(&self) -> P::Key {
         self.setup.myself.public_key
     }
 
     // All keys that something was said of, and which may have a record therefore.
-    fn mentioned(&self) -> BTreeSet<Key> {
+    fn mentioned(&self) -> BTreeSet<P::Key> {
         let sets = self.sets.iter().flat_map(|set| set.1.iter().chain(&set.2));
         let bootstrappers = self.setup.bootstrappers.iter().map(|(key, _)| key);
         let all = sets.chain(bootstrappers).chain(self.held.keys());
@@ -188,7 +196,7 @@ impl Model {
         others.len()
     }
 
-    pub fn retained(&self) -> &[(u64, BTreeSet<Key>, BTreeSet<Key>)] {
+    pub fn retained(&self) -> &[Set<P::Key>] {
         let first = self
             .sets
             .len()
@@ -196,28 +204,28 @@ impl Model {
         &self.sets[first..]
     }
 
-    fn is_primary(&self, peer: &Key) -> bool {
+    fn is_primary(&self, peer: &P::Key) -> bool {
         self.retained().iter().any(|set| set.1.contains(peer))
     }
 
-    fn is_named(&self, peer: &Key) -> bool {
+    fn is_named(&self, peer: &P::Key) -> bool {
         self.is_primary(peer) || self.retained().iter().any(|set| set.2.contains(peer))
     }
 
-    fn is_persistent(&self, peer: &Key) -> bool {
+    fn is_persistent(&self, peer: &P::Key) -> bool {
         let mut bootstrappers = self.setup.bootstrappers.iter();
         *peer == self.own() || bootstrappers.any(|(key, _)| key == peer)
     }
 
-    fn is_entitled(&self, peer: &Key) -> bool {
+    fn is_entitled(&self, peer: &P::Key) -> bool {
         *peer != self.own() && (self.is_named(peer) || self.is_persistent(peer))
     }
 
-    pub fn is_present(&self, peer: &Key) -> bool {
+    pub fn is_present(&self, peer: &P::Key) -> bool {
         self.is_persistent(peer) || self.is_named(peer) || self.held.contains_key(peer)
     }
 
-    pub fn status(&self, peer: &Key) -> Status {
+    pub fn status(&self, peer: &P::Key) -> Status {
         match self.held.get(peer) {
             None => Status::Inert,
             Some(held) if held.is_active => Status::Active,
@@ -226,7 +234,7 @@ impl Model {
     }
 
     // The address of the peer's info, or else that of its last bootstrapper.
-    fn address(&self, peer: &Key) -> Option<&Ingress> {
+    fn address(&self, peer: &P::Key) -> Option<&Ingress> {
         let mut bootstrappers = self.setup.bootstrappers.iter().rev();
         match self.known.get(peer) {
             Some((info, _)) => Some(&info.ingress),
@@ -234,7 +242,7 @@ impl Model {
         }
     }
 
-    fn has_valid_address(&self, peer: &Key) -> bool {
+    fn has_valid_address(&self, peer: &P::Key) -> bool {
         match self.address(peer) {
             None => false,
             Some(Ingress::Dns { .. }) => self.setup.cfg.allow_dns,
@@ -242,14 +250,14 @@ impl Model {
         }
     }
 
-    fn is_target(&self, peer: &Key) -> bool {
+    fn is_target(&self, peer: &P::Key) -> bool {
         self.is_entitled(peer)
             && self.status(peer) == Status::Inert
             && self.has_valid_address(peer)
             && (self.is_primary(peer) || self.is_persistent(peer))
     }
 
-    pub fn is_blocked(&self, peer: &Key, now: Moment) -> bool {
+    pub fn is_blocked(&self, peer: &P::Key, now: Moment) -> bool {
         self.blocks.get(peer).is_some_and(|end| *end > now)
     }
 
@@ -257,12 +265,12 @@ impl Model {
         self.blocks.values().min().copied()
     }
 
-    pub fn blocked_peers(&self, now: Moment) -> OrderedSet {
+    pub fn blocked_peers(&self, now: Moment) -> OrderedSet<P> {
         let blocked = self.blocks.keys();
         ordered(blocked.filter(|peer| self.is_blocked(peer, now)).copied())
     }
 
-    pub fn is_eligible(&self, peer: &Key, now: Moment) -> bool {
+    pub fn is_eligible(&self, peer: &P::Key, now: Moment) -> bool {
         self.is_entitled(peer) && !self.is_blocked(peer, now)
     }
 
@@ -273,16 +281,21 @@ impl Model {
         self.known = present.collect();
     }
 
-    pub fn track(&mut self, index: u64, primary: &[Key], secondary: &[Key]) -> Option<OrderedSet> {
+    pub fn track(
+        &mut self,
+        index: u64,
+        primary: &[P::Key],
+        secondary: &[P::Key],
+    ) -> Option<OrderedSet<P>> {
         if self.sets.last().is_some_and(|set| index <= set.0) {
             return None;
         }
-        let entitled: Vec<Key> = self.held.keys().copied().collect();
-        let entitled: Vec<Key> = entitled
+        let entitled: Vec<P::Key> = self.held.keys().copied().collect();
+        let entitled: Vec<P::Key> = entitled
             .into_iter()
             .filter(|peer| self.is_entitled(peer))
             .collect();
-        let primary: BTreeSet<Key> = primary.iter().copied().collect();
+        let primary: BTreeSet<P::Key> = primary.iter().copied().collect();
         let secondary = secondary.iter().filter(|peer| !primary.contains(peer));
         let secondary = secondary.copied().collect();
         self.sets.push((index, primary, secondary));
@@ -293,11 +306,11 @@ impl Model {
 
     pub fn grant(
         &mut self,
-        peer: &Key,
+        peer: &P::Key,
         now: Moment,
         draw: Duration,
         is_dial: bool,
-    ) -> Option<Metadata> {
+    ) -> Option<Metadata<P>> {
         let cooling = self
             .cooldowns
             .get(peer)
@@ -317,14 +330,14 @@ impl Model {
     }
 
     /// What is held of the peer.
-    pub fn metadata(&self, peer: &Key) -> Option<Metadata> {
+    pub fn metadata(&self, peer: &P::Key) -> Option<Metadata<P>> {
         Some(match self.held.get(peer)?.dialled.clone() {
             Some(ingress) => Metadata::Dialer(*peer, ingress),
             None => Metadata::Listener(*peer),
         })
     }
 
-    pub fn connect(&mut self, peer: &Key, is_dialer: bool) -> bool {
+    pub fn connect(&mut self, peer: &P::Key, is_dialer: bool) -> bool {
         let Some(held) = self.held.get_mut(peer).filter(|held| !held.is_active) else {
             return false;
         };
@@ -336,7 +349,7 @@ impl Model {
     }
 
     // `None` if there is no reservation.
-    fn connect_reserved(&mut self, peer: &Key) -> Option<Result<(), ConnectError>> {
+    fn connect_reserved(&mut self, peer: &P::Key) -> Option<Result<(), ConnectError>> {
         let is_dialer = self.held.get(peer)?.dialled.is_some();
         Some(match self.connect(peer, is_dialer) {
             true => Ok(()),
@@ -345,7 +358,7 @@ impl Model {
     }
 
     // Whether there was a reservation to release.
-    pub fn release(&mut self, peer: &Key) -> bool {
+    pub fn release(&mut self, peer: &P::Key) -> bool {
         let Some(held) = self.held.remove(peer) else {
             return false;
         };
@@ -356,7 +369,7 @@ impl Model {
         true
     }
 
-    pub fn update(&mut self, infos: &[Info]) {
+    pub fn update(&mut self, infos: &[Info<P>]) {
         for info in infos {
             let peer = info.public_key;
             let known = self.known.get(&peer);
@@ -367,7 +380,7 @@ impl Model {
         }
     }
 
-    pub fn block(&mut self, peer: &Key, now: Moment) -> bool {
+    pub fn block(&mut self, peer: &P::Key, now: Moment) -> bool {
         let is_taken = *peer != self.own() && !self.is_blocked(peer, now);
         if is_taken {
             let end = now.saturating_add(self.setup.cfg.block_duration);
@@ -397,26 +410,26 @@ impl Model {
         self.retained().iter().position(|set| set.0 == index)
     }
 
-    pub fn set_at(&self, place: usize) -> TrackedPeers {
+    pub fn set_at(&self, place: usize) -> TrackedPeers<P> {
         let (_, primary, secondary) = &self.retained()[place];
         TrackedPeers::new(ordered(primary.clone()), ordered(secondary.clone()))
     }
 
-    pub fn all(&self) -> TrackedPeers {
+    pub fn all(&self) -> TrackedPeers<P> {
         let sets = self.retained().iter();
-        let primary: BTreeSet<Key> = sets.clone().flat_map(|set| set.1.clone()).collect();
-        let secondary: BTreeSet<Key> = sets.flat_map(|set| set.2.clone()).collect();
+        let primary: BTreeSet<P::Key> = sets.clone().flat_map(|set| set.1.clone()).collect();
+        let secondary: BTreeSet<P::Key> = sets.flat_map(|set| set.2.clone()).collect();
         let secondary = secondary.difference(&primary).copied();
         TrackedPeers::new(ordered(primary.iter().copied()), ordered(secondary))
     }
 
     // Its index, its peers, and those of all sets.
-    pub fn latest_update(&self) -> Option<(u64, TrackedPeers, TrackedPeers)> {
+    pub fn latest_update(&self) -> Option<(u64, TrackedPeers<P>, TrackedPeers<P>)> {
         let last = self.retained().len().checked_sub(1)?;
         Some((self.retained()[last].0, self.set_at(last), self.all()))
     }
 
-    pub fn sharable(&self, peer: &Key) -> Option<Info> {
+    pub fn sharable(&self, peer: &P::Key) -> Option<Info<P>> {
         if *peer == self.own() {
             return Some(self.setup.myself.clone());
         }
@@ -425,7 +438,7 @@ impl Model {
     }
 
     // `None` if the number of bits isn't that of the primary peers.
-    pub fn infos(&self, bit_vec: &BitVec, now: Moment) -> Option<Vec<Info>> {
+    pub fn infos(&self, bit_vec: &BitVec, now: Moment) -> Option<Vec<Info<P>>> {
         let Some(place) = self.set_of(bit_vec.index) else {
             return Some(Vec::new());
         };
@@ -442,7 +455,7 @@ impl Model {
         )
     }
 
-    fn is_wanted(&self, peer: &Key) -> bool {
+    fn is_wanted(&self, peer: &P::Key) -> bool {
         match self.known.get(peer) {
             _ if *peer == self.own() => false,
             None => true,
@@ -461,11 +474,12 @@ impl Model {
     }
 
     // The peers that may be dialled, and when to ask again.
-    pub fn dialable(&self, now: Moment) -> (Vec<Key>, Option<Moment>) {
+    pub fn dialable(&self, now: Moment) -> (Vec<P::Key>, Option<Moment>) {
         let all = || self.mentioned().into_iter();
-        let dial_moment = |peer: &Key| self.cooldowns.get(peer).map_or(Moment::EPOCH, |c| c.dial);
+        let dial_moment =
+            |peer: &P::Key| self.cooldowns.get(peer).map_or(Moment::EPOCH, |c| c.dial);
         let targets = all().filter(|peer| self.is_target(peer) && !self.is_blocked(peer, now));
-        let (peers, later): (Vec<Key>, Vec<Key>) =
+        let (peers, later): (Vec<P::Key>, Vec<P::Key>) =
             targets.partition(|peer| dial_moment(peer) <= now);
         let blocked = all().filter(|peer| self.is_present(peer) && self.is_blocked(peer, now));
         let ends = blocked.map(|peer| self.blocks[&peer]);
@@ -473,7 +487,12 @@ impl Model {
         (peers, next_query_at)
     }
 
-    pub fn receive(&mut self, payload: &Payload, now: Moment, is_valid: Validity<'_>) -> Received {
+    pub fn receive(
+        &mut self,
+        payload: &Payload<P>,
+        now: Moment,
+        is_valid: Validity<'_, P>,
+    ) -> Received<P> {
         if let Some(length) = self.excess(payload) {
             return Received::Codec(CodecError::InvalidLength(length as u64));
         }
@@ -508,7 +527,7 @@ impl Model {
     }
 
     // The length that exceeds the limits of frames.
-    pub fn excess(&self, payload: &Payload) -> Option<usize> {
+    pub fn excess(&self, payload: &Payload<P>) -> Option<usize> {
         let limits = &self.setup.payload;
         let (length, most) = match payload {
             Payload::Data(data) => (data.message.len(), limits.max_data_length),
@@ -522,9 +541,9 @@ impl Model {
     pub fn judged(
         &self,
         place: usize,
-        info: &Info,
+        info: &Info<P>,
         now: Moment,
-        is_valid: Validity<'_>,
+        is_valid: Validity<'_, P>,
     ) -> Result<(), Error> {
         let latest = now.saturating_add(self.setup.synchrony_bound);
         if info.public_key == self.own() {
@@ -541,9 +560,9 @@ impl Model {
 
     pub fn all_judged(
         &self,
-        infos: &[Info],
+        infos: &[Info<P>],
         now: Moment,
-        is_valid: Validity<'_>,
+        is_valid: Validity<'_, P>,
     ) -> Result<(), Error> {
         if infos.len() > self.setup.peer_gossip_max_count {
             return Err(Error::TooManyPeers(infos.len() as u64));

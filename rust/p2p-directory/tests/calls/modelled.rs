@@ -2,16 +2,14 @@
 
 use super::fields::{Fields, Outcome, key_bytes, moment_bytes, set_bytes};
 use super::model::Model;
-use crate::pair::{
-    CodecError, Error, Info, KEY_SIZE, Metadata, Moment, Payload, PayloadConfig, Received, Status,
-    What,
-};
 use p2p_directory::record::{Answer, Call};
+use p2p_directory::sized::{Info, Metadata, Pair, Payload, Received};
+use p2p_directory::{CodecError, Error, Moment, PayloadConfig, Status, What};
 use p2p_directory_sys as exports;
 
 /// The model, and the limits of its node.
-pub struct Modelled {
-    node: Option<(Model, PayloadConfig)>,
+pub struct Modelled<P: Pair> {
+    node: Option<(Model<P>, PayloadConfig)>,
 }
 
 /// What the model answers: a number alone, bytes, or that there is none.
@@ -44,14 +42,14 @@ impl Told {
     }
 }
 
-impl Modelled {
-    pub fn new() -> Modelled {
+impl<P: Pair> Modelled<P> {
+    pub fn new() -> Modelled<P> {
         Modelled { node: None }
     }
 
     /// What the model answers to a recorded call.
     pub fn answer(&mut self, call: &Call<'_>) -> Outcome<Answer> {
-        let fields = Fields(call);
+        let fields = Fields::of(call);
         if call.name() == "init" {
             let setup = fields.setup()?;
             let limits = setup.payload;
@@ -72,7 +70,11 @@ impl Modelled {
 }
 
 // What a call answers that may change the node, or `None` if it is another call.
-fn changed(model: &mut Model, name: &str, fields: &Fields<'_, '_>) -> Outcome<Option<Told>> {
+fn changed<P: Pair>(
+    model: &mut Model<P>,
+    name: &str,
+    fields: &Fields<'_, '_, P>,
+) -> Outcome<Option<Told>> {
     Ok(Some(match name {
         "track" => {
             let index = fields.number("index")?;
@@ -104,9 +106,9 @@ fn changed(model: &mut Model, name: &str, fields: &Fields<'_, '_>) -> Outcome<Op
     }))
 }
 
-fn asked(model: &Model, name: &str, fields: &Fields<'_, '_>) -> Outcome<Told> {
+fn asked<P: Pair>(model: &Model<P>, name: &str, fields: &Fields<'_, '_, P>) -> Outcome<Told> {
     Ok(match name {
-        "track_room" => Told::Number((model.tracked() * KEY_SIZE) as u64),
+        "track_room" => Told::Number((model.tracked() * P::KEY_SIZE) as u64),
         "tracked" => Told::Number(model.tracked() as u64),
         "retained" => Told::Number(model.retained().len() as u64),
         "reservation" => Told::of_option(model.metadata(&fields.peer()?).map(|held| match held {
@@ -131,17 +133,17 @@ fn asked(model: &Model, name: &str, fields: &Fields<'_, '_>) -> Outcome<Told> {
         }
         "get_random_bit_vec" => {
             let bits = model.bits(fields.size("place")?);
-            Told::of_option(bits.map(|bits| untagged(Payload::BitVec(bits))))
+            Told::of_option(bits.map(|bits| untagged(Payload::<P>::BitVec(bits))))
         }
         "ask" => {
             let bits = model.bits(fields.size("place")?);
-            Told::of_option(bits.map(|bits| Payload::BitVec(bits).encode()))
+            Told::of_option(bits.map(|bits| Payload::<P>::BitVec(bits).encode()))
         }
         name => sets(model, name, fields)?,
     })
 }
 
-fn sets(model: &Model, name: &str, fields: &Fields<'_, '_>) -> Outcome<Told> {
+fn sets<P: Pair>(model: &Model<P>, name: &str, fields: &Fields<'_, '_, P>) -> Outcome<Told> {
     Ok(match name {
         "get_peer_set" => {
             let place = model.set_of(fields.number("index")?);
@@ -172,7 +174,7 @@ fn sets(model: &Model, name: &str, fields: &Fields<'_, '_>) -> Outcome<Told> {
     })
 }
 
-fn status(model: &Model, fields: &Fields<'_, '_>) -> Outcome<Told> {
+fn status<P: Pair>(model: &Model<P>, fields: &Fields<'_, '_, P>) -> Outcome<Told> {
     let peer = fields.peer()?;
     if !model.is_present(&peer) {
         return Ok(Told::Absent);
@@ -184,25 +186,25 @@ fn status(model: &Model, fields: &Fields<'_, '_>) -> Outcome<Told> {
     }))
 }
 
-fn dialable(model: &Model, now: Moment) -> Vec<u8> {
+fn dialable<P: Pair>(model: &Model<P>, now: Moment) -> Vec<u8> {
     let (peers, next) = model.dialable(now);
     let mut bytes = match next {
         Some(next) => [&[1][..], &moment_bytes(next)].concat(),
         None => vec![0],
     };
     for peer in peers {
-        bytes.extend(peer.as_bytes());
+        bytes.extend(peer.as_ref());
     }
     bytes
 }
 
 // The encoding of a payload without its first byte.
-fn untagged(payload: Payload) -> Vec<u8> {
+fn untagged<P: Pair>(payload: Payload<P>) -> Vec<u8> {
     payload.encode().split_off(1)
 }
 
 // The infos of a frame, if it decodes.
-fn infos_of(frame: &[u8], limits: &PayloadConfig) -> Result<Vec<Info>, CodecError> {
+fn infos_of<P: Pair>(frame: &[u8], limits: &PayloadConfig) -> Result<Vec<Info<P>>, CodecError> {
     Ok(match Payload::decode(frame, limits)? {
         Payload::Greeting(info) => vec![info],
         Payload::Peers(infos) => infos,
@@ -211,7 +213,11 @@ fn infos_of(frame: &[u8], limits: &PayloadConfig) -> Result<Vec<Info>, CodecErro
 }
 
 // The signatures to verify: each that decides, up to the first info that is refused without.
-fn checked(model: &Model, limits: &PayloadConfig, fields: &Fields<'_, '_>) -> Outcome<Told> {
+fn checked<P: Pair>(
+    model: &Model<P>,
+    limits: &PayloadConfig,
+    fields: &Fields<'_, '_, P>,
+) -> Outcome<Told> {
     let (frame, now) = (fields.bytes("frame")?, fields.now()?);
     let infos = infos_of(&frame, limits).unwrap_or_default();
     let mut told = (infos.len() as u64).to_be_bytes().to_vec();
@@ -225,32 +231,36 @@ fn checked(model: &Model, limits: &PayloadConfig, fields: &Fields<'_, '_>) -> Ou
         }
         let signed = info.signed_bytes();
         told.extend((signed.len() as u64).to_be_bytes());
-        told.extend(info.public_key.as_bytes());
+        told.extend(info.public_key.as_ref());
         told.extend(signed);
-        told.extend(info.signature.0);
+        told.extend(info.signature.as_ref());
     }
     Ok(Told::Bytes(told))
 }
 
-fn too_many(infos: &[Info]) -> Error {
+fn too_many<P: Pair>(infos: &[Info<P>]) -> Error {
     Error::TooManyPeers(infos.len() as u64)
 }
 
-fn received(model: &mut Model, limits: &PayloadConfig, fields: &Fields<'_, '_>) -> Outcome<Told> {
+fn received<P: Pair>(
+    model: &mut Model<P>,
+    limits: &PayloadConfig,
+    fields: &Fields<'_, '_, P>,
+) -> Outcome<Told> {
     let (frame, now) = (fields.bytes("frame")?, fields.now()?);
     let verdicts = fields.bytes("verdicts")?;
     let payload = match Payload::decode(&frame, limits) {
         Ok(payload) => payload,
         Err(error) => return Ok(Told::Bytes([&[4][..], &codec_error(error)?].concat())),
     };
-    let is_valid = |place: usize, _: &Info| verdicts.get(place).is_some_and(|byte| *byte != 0);
+    let is_valid = |place: usize, _: &Info<P>| verdicts.get(place).is_some_and(|byte| *byte != 0);
     let frame = payload.encode();
     Ok(Told::Bytes(match model.receive(&payload, now, &is_valid) {
         Received::Data { channel, message } => {
             let length = (frame[message].len() as u64).to_be_bytes();
             [&[0][..], &channel.to_be_bytes(), &length].concat()
         }
-        Received::Greeted(key) => [&[1][..], key.as_bytes()].concat(),
+        Received::Greeted(key) => [&[1][..], key.as_ref()].concat(),
         Received::Reply(reply) => [&[2][..], &reply].concat(),
         Received::Applied(count) => [&[3][..], &(count as u64).to_be_bytes()].concat(),
         Received::Codec(error) => [&[4][..], &codec_error(error)?].concat(),

@@ -1,6 +1,6 @@
 //! A node of this crate, called as the model is.
 
-use super::call::Call;
+use super::Call;
 use super::model::{CUTS, shown};
 use crate::pair::testing::verify;
 use crate::pair::{

@@ -7,14 +7,15 @@ use super::printed::{
 };
 use super::usage::{Usage, nearest};
 use super::words::Words;
-use p2p_directory::testing::verify;
-use p2p_directory::{Data, Moment, OutOfMemory, Payload, PayloadConfig, Received, Reservation};
+use p2p_directory::sized::testing::verify;
+use p2p_directory::sized::{Pair, Payload, Received, Reservation};
+use p2p_directory::{Data, Moment, OutOfMemory, PayloadConfig};
 
 /// The reply to a call.
 pub type Reply = Result<String, OutOfMemory>;
 
 /// A call with its arguments.
-pub type Call = Box<dyn FnOnce(&mut Named) -> Reply>;
+pub type Call<P> = Box<dyn FnOnce(&mut Named<P>) -> Reply>;
 
 const ALL: PayloadConfig = PayloadConfig {
     max_bit_vec: u64::MAX,
@@ -67,7 +68,11 @@ pub fn nearest_command(word: &str) -> &'static str {
 }
 
 /// Parses the arguments of the call of this name. Infos are signed in the namespace.
-pub fn parsed(name: &str, words: &mut Words<'_>, namespace: &[u8]) -> Result<Call, Fault> {
+pub fn parsed<P: Pair>(
+    name: &str,
+    words: &mut Words<'_, P>,
+    namespace: &[u8],
+) -> Result<Call<P>, Fault> {
     match name {
         "track" | "get_peer_set" | "latest_update" | "latest_set_index" | "all" => {
             sets(name, words)
@@ -80,13 +85,13 @@ pub fn parsed(name: &str, words: &mut Words<'_>, namespace: &[u8]) -> Result<Cal
     }
 }
 
-fn sets(name: &str, words: &mut Words<'_>) -> Result<Call, Fault> {
+fn sets<P: Pair>(name: &str, words: &mut Words<'_, P>) -> Result<Call<P>, Fault> {
     Ok(match name {
         "track" => {
             let (index, peers) = (words.number()?, words.tracked()?);
             Box::new(move |named| {
                 let torn = named.directory().track(index, &peers)?.accepted();
-                Ok(option(torn.map(|torn| keys(&torn))))
+                Ok(option(torn.map(|torn| keys::<P>(&torn))))
             })
         }
         "get_peer_set" => {
@@ -105,7 +110,7 @@ fn sets(name: &str, words: &mut Words<'_>) -> Result<Call, Fault> {
     })
 }
 
-fn reservations(name: &str, words: &mut Words<'_>) -> Result<Call, Fault> {
+fn reservations<P: Pair>(name: &str, words: &mut Words<'_, P>) -> Result<Call<P>, Fault> {
     let peer = words.peer()?;
     Ok(match name {
         "dial" => {
@@ -140,8 +145,8 @@ fn reservations(name: &str, words: &mut Words<'_>) -> Result<Call, Fault> {
     })
 }
 
-impl Named {
-    fn keep(&mut self, granted: Option<Reservation>) -> String {
+impl<P: Pair> Named<P> {
+    fn keep(&mut self, granted: Option<Reservation<P>>) -> String {
         let Some(reservation) = granted else {
             return "refused".to_owned();
         };
@@ -150,7 +155,7 @@ impl Named {
     }
 }
 
-fn blocks(name: &str, words: &mut Words<'_>) -> Result<Call, Fault> {
+fn blocks<P: Pair>(name: &str, words: &mut Words<'_, P>) -> Result<Call<P>, Fault> {
     Ok(match name {
         "block" => {
             let (peer, now) = (words.peer()?, words.moment()?);
@@ -162,13 +167,17 @@ fn blocks(name: &str, words: &mut Words<'_>) -> Result<Call, Fault> {
         }
         "blocked_peers" => {
             let now = words.moment()?;
-            Box::new(move |named| Ok(keys(&named.directory().blocked_peers(now)?)))
+            Box::new(move |named| Ok(keys::<P>(&named.directory().blocked_peers(now)?)))
         }
         _ => Box::new(|named| Ok(option(named.directory().next_unblock()))),
     })
 }
 
-fn knowledge(name: &str, words: &mut Words<'_>, namespace: &[u8]) -> Result<Call, Fault> {
+fn knowledge<P: Pair>(
+    name: &str,
+    words: &mut Words<'_, P>,
+    namespace: &[u8],
+) -> Result<Call<P>, Fault> {
     Ok(match name {
         "update" => {
             let news = words.infos(namespace)?;
@@ -201,7 +210,7 @@ fn knowledge(name: &str, words: &mut Words<'_>, namespace: &[u8]) -> Result<Call
     })
 }
 
-fn frames(name: &str, words: &mut Words<'_>) -> Result<Call, Fault> {
+fn frames<P: Pair>(name: &str, words: &mut Words<'_, P>) -> Result<Call<P>, Fault> {
     Ok(match name {
         "ask" => {
             let place = words.size()?;
@@ -218,7 +227,7 @@ fn frames(name: &str, words: &mut Words<'_>) -> Result<Call, Fault> {
 }
 
 // The result of a frame.
-fn received(frame: &[u8], received: Received) -> String {
+fn received<P: Pair>(frame: &[u8], received: Received<P>) -> String {
     match received {
         Received::Data { channel, message } => {
             let message = frame[message].to_vec();
@@ -230,7 +239,7 @@ fn received(frame: &[u8], received: Received) -> String {
     }
 }
 
-fn others(name: &str, words: &mut Words<'_>) -> Result<Call, Fault> {
+fn others<P: Pair>(name: &str, words: &mut Words<'_, P>) -> Result<Call<P>, Fault> {
     Ok(match name {
         "status" => {
             let peer = words.peer()?;
@@ -262,9 +271,9 @@ fn others(name: &str, words: &mut Words<'_>) -> Result<Call, Fault> {
 
 /// The result of an exchange, in which one node asks another for its wanted infos of the set at a
 /// position.
-pub fn exchanged(
-    asker: &mut Named,
-    replier: &mut Named,
+pub fn exchanged<P: Pair>(
+    asker: &mut Named<P>,
+    replier: &mut Named<P>,
     place: usize,
     asker_now: Moment,
     replier_now: Moment,
@@ -278,7 +287,7 @@ pub fn exchanged(
         other => return Ok(received(&frame, other)),
     };
     Ok(match asker.node.receive(&reply, asker_now, verify) {
-        Received::Applied(_) => match Payload::decode(&reply, &ALL) {
+        Received::Applied(_) => match Payload::<P>::decode(&reply, &ALL) {
             Ok(Payload::Peers(peers)) => format!("Applied({})", infos(&peers)),
             other => format!("{other:?}"),
         },

@@ -10,40 +10,39 @@ mod words;
 
 use calls::{command_of, exchanged, nearest_command, parsed};
 use fault::Fault;
-use p2p_directory::testing::sign;
-use p2p_directory::{
-    Directory, Info, Ingress, KEY_SIZE, Key, Node, Payload, PayloadConfig, Reservation, Setup,
-    SetupError,
+use p2p_directory::sized::{
+    Bytes, Directory, Info, Node, Pair, Payload, Reservation, Setup, testing,
 };
+use p2p_directory::{Ingress, PayloadConfig, SetupError};
 use printed::{hexadecimal, info, ingress, payload};
 pub use script::{Mode, Tally, play};
 use std::collections::BTreeMap;
 use words::Words;
 
 /// The key of a number, which is in its last bytes.
-pub fn key(number: u64) -> Key {
-    let mut bytes = [0; KEY_SIZE];
-    bytes[KEY_SIZE - 8..].copy_from_slice(&number.to_be_bytes());
-    Key(bytes)
+pub fn key<P: Pair>(number: u64) -> P::Key {
+    let mut bytes = testing::key::<P>(0).as_ref().to_vec();
+    bytes[P::KEY_SIZE - 8..].copy_from_slice(&number.to_be_bytes());
+    P::Key::of_bytes(&bytes).expect("it begins as a key does")
 }
 
 /// The info of these parts, signed by the key in the namespace.
-pub fn signed(key: Key, namespace: &[u8], ingress: Ingress, timestamp: u64) -> Info {
+pub fn signed<P: Pair>(key: P::Key, namespace: &[u8], ingress: Ingress, timestamp: u64) -> Info<P> {
     Info::sign(key, namespace, ingress, timestamp, |namespace, message| {
-        sign(&key, namespace, message)
+        testing::sign::<P>(&key, namespace, message)
     })
 }
 
 /// A node with its name, and the reservations that it granted.
-struct Named {
+struct Named<P: Pair> {
     name: String,
     namespace: Vec<u8>,
-    node: Node,
-    held: BTreeMap<Key, Reservation>,
+    node: Node<P>,
+    held: BTreeMap<P::Key, Reservation<P>>,
 }
 
-impl Named {
-    fn new(name: &str, setup: Setup) -> Result<Named, SetupError> {
+impl<P: Pair> Named<P> {
+    fn new(name: &str, setup: Setup<P>) -> Result<Named<P>, SetupError> {
         Ok(Named {
             name: name.to_owned(),
             namespace: setup.namespace.clone(),
@@ -52,20 +51,20 @@ impl Named {
         })
     }
 
-    fn directory(&mut self) -> &mut Directory {
+    fn directory(&mut self) -> &mut Directory<P> {
         self.node.directory_mut()
     }
 }
 
 /// Nodes with different names, one of which was created or named last.
-struct Player {
-    nodes: Vec<Named>,
+struct Player<P: Pair> {
+    nodes: Vec<Named<P>>,
     latest: usize,
 }
 
-impl Player {
+impl<P: Pair> Player<P> {
     /// One node without a name, with default settings.
-    fn new() -> Result<Player, SetupError> {
+    fn new() -> Result<Player<P>, SetupError> {
         Ok(Player {
             nodes: vec![Named::new("", settings::default_setup())?],
             latest: 0,
@@ -96,7 +95,7 @@ impl Player {
         let mut words = Words::new(arguments, usage);
         match name {
             "node" => self.put(&mut words),
-            "decode" | "recode" => value(name, &mut words),
+            "decode" | "recode" => value::<P>(name, &mut words),
             "frame" => {
                 let frame = words.payload(&self.nodes[node].namespace)?;
                 words.end()?;
@@ -113,7 +112,7 @@ impl Player {
     }
 
     // Creates a node, which replaces that of the same name.
-    fn put(&mut self, words: &mut Words<'_>) -> Result<String, Fault> {
+    fn put(&mut self, words: &mut Words<'_, P>) -> Result<String, Fault> {
         let name = words.word()?;
         if name.contains([':', '=']) {
             return Err(Fault::form("a name without : and ="));
@@ -132,7 +131,7 @@ impl Player {
         Ok("ready".to_owned())
     }
 
-    fn exchange(&mut self, asker: usize, words: &mut Words<'_>) -> Result<String, Fault> {
+    fn exchange(&mut self, asker: usize, words: &mut Words<'_, P>) -> Result<String, Fault> {
         let replier = self.place_of(words.word()?)?;
         let (place, asker_now) = (words.size()?, words.moment()?);
         let replier_now = words.moment()?;
@@ -152,7 +151,7 @@ fn first_word(text: &str) -> (&str, &str) {
 }
 
 // The value that bytes encode, or the bytes themselves.
-fn value(name: &str, words: &mut Words<'_>) -> Result<String, Fault> {
+fn value<P: Pair>(name: &str, words: &mut Words<'_, P>) -> Result<String, Fault> {
     let kind = words.word()?;
     let limits = match kind {
         "payload" => Some(PayloadConfig {
@@ -167,9 +166,11 @@ fn value(name: &str, words: &mut Words<'_>) -> Result<String, Fault> {
     words.end()?;
     let read = match limits {
         Some(limits) => {
-            Payload::decode(&bytes, &limits).map(|read| (payload(&read), read.encode()))
+            Payload::<P>::decode(&bytes, &limits).map(|read| (payload(&read), read.encode()))
         }
-        None if kind == "info" => Info::decode(&bytes).map(|read| (info(&read), read.encode())),
+        None if kind == "info" => {
+            Info::<P>::decode(&bytes).map(|read| (info(&read), read.encode()))
+        }
         None => Ingress::decode(&bytes).map(|read| (ingress(&read), read.encode())),
     };
     Ok(match read {

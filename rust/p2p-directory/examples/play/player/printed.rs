@@ -1,8 +1,8 @@
 //! Values as they are printed.
 
-use p2p_directory::{
-    BitVec, Data, Dialable, Info, Ingress, Key, Payload, PeerSetUpdate, TrackedPeers,
-};
+use super::key;
+use p2p_directory::sized::{Dialable, Info, Pair, Payload, PeerSetUpdate, TrackedPeers};
+use p2p_directory::{BitVec, Data, Ingress};
 use std::fmt::Display;
 
 /// The value, or `None`.
@@ -29,27 +29,29 @@ fn list<T>(items: &[T], printed: impl Fn(&T) -> String) -> String {
 }
 
 // The number of a key, or its digits if it has none.
-fn number(key: &Key) -> String {
-    match key.0.split_last_chunk() {
-        Some((front, last)) if front.iter().all(|byte| *byte == 0) => {
-            u64::from_be_bytes(*last).to_string()
-        }
-        _ => key.to_string(),
-    }
+fn number<P: Pair>(of: &P::Key) -> String {
+    let last = of.as_ref().last_chunk().copied().map(u64::from_be_bytes);
+    let is_key_of = |number: &u64| key::<P>(*number) == *of;
+    last.filter(is_key_of)
+        .map_or_else(|| of.to_string(), |number| number.to_string())
 }
 
 /// The numbers of peers.
-pub fn keys(peers: &[Key]) -> String {
-    list(peers, number)
+pub fn keys<P: Pair>(peers: &[P::Key]) -> String {
+    list(peers, number::<P>)
 }
 
 /// The peers of both roles.
-pub fn tracked(peers: &TrackedPeers) -> String {
-    format!("{} / {}", keys(&peers.primary), keys(&peers.secondary))
+pub fn tracked<P: Pair>(peers: &TrackedPeers<P>) -> String {
+    format!(
+        "{} / {}",
+        keys::<P>(&peers.primary),
+        keys::<P>(&peers.secondary)
+    )
 }
 
 /// The latest set, and the peers of all.
-pub fn update(update: &PeerSetUpdate) -> String {
+pub fn update<P: Pair>(update: &PeerSetUpdate<P>) -> String {
     let PeerSetUpdate {
         index, latest, all, ..
     } = update;
@@ -57,9 +59,9 @@ pub fn update(update: &PeerSetUpdate) -> String {
 }
 
 /// The peers to dial, and when to ask again.
-pub fn dialable(dialable: &Dialable) -> String {
+pub fn dialable<P: Pair>(dialable: &Dialable<P>) -> String {
     let next = option(dialable.next_query_at);
-    format!("{} {next}", keys(&dialable.peers))
+    format!("{} {next}", keys::<P>(&dialable.peers))
 }
 
 /// A socket address, or a name after `~`.
@@ -71,17 +73,17 @@ pub fn ingress(ingress: &Ingress) -> String {
 }
 
 /// The number of the key, the timestamp and the ingress of an info.
-pub fn info(info: &Info) -> String {
+pub fn info<P: Pair>(info: &Info<P>) -> String {
     let at = ingress(&info.ingress);
     format!(
         "Info({}, {}, {at})",
-        number(&info.public_key),
+        number::<P>(&info.public_key),
         info.timestamp
     )
 }
 
 /// Infos, separated by commas.
-pub fn infos(infos: &[Info]) -> String {
+pub fn infos<P: Pair>(infos: &[Info<P>]) -> String {
     list(infos, info)
 }
 
@@ -101,7 +103,7 @@ pub fn data(data: &Data) -> String {
 }
 
 /// The payload of a frame.
-pub fn payload(payload: &Payload) -> String {
+pub fn payload<P: Pair>(payload: &Payload<P>) -> String {
     match payload {
         Payload::Data(message) => data(message),
         Payload::Greeting(greeting) => format!("Greeting({})", info(greeting)),

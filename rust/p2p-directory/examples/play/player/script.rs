@@ -3,6 +3,7 @@
 use super::Player;
 use super::fault::Fault;
 use p2p_directory::SetupError;
+use p2p_directory::sized::Pair;
 use std::fmt;
 use std::io::{self, BufRead, Read, Write};
 
@@ -70,8 +71,12 @@ struct Record<'w, W> {
 /// # Errors
 ///
 /// Those of input and output, and `OutOfMemory` if an allocation for the first node fails.
-pub fn play(mut input: impl BufRead, out: &mut impl Write, mode: Mode) -> io::Result<Tally> {
-    let mut player = Player::new().map_err(|error| match error {
+pub fn play<P: Pair>(
+    mut input: impl BufRead,
+    out: &mut impl Write,
+    mode: Mode,
+) -> io::Result<Tally> {
+    let mut player = Player::<P>::new().map_err(|error| match error {
         SetupError::OutOfMemory => io::ErrorKind::OutOfMemory.into(),
         other => io::Error::other(other),
     })?;
@@ -103,7 +108,12 @@ pub fn play(mut input: impl BufRead, out: &mut impl Write, mode: Mode) -> io::Re
 
 impl<W: Write> Record<'_, W> {
     // Serves one line, or compares the last reply with what is expected.
-    fn take_line(&mut self, player: &mut Player, number: u64, bytes: &[u8]) -> io::Result<()> {
+    fn take_line<P: Pair>(
+        &mut self,
+        player: &mut Player<P>,
+        number: u64,
+        bytes: &[u8],
+    ) -> io::Result<()> {
         let Ok(text) = str::from_utf8(bytes) else {
             let fault = Fault::new("bytes that are no text, expected UTF-8");
             return self.reply(number, Err(fault));

@@ -4,7 +4,8 @@ use super::fault::Fault;
 use super::usage::nearest_setting;
 use super::words::{Words, bootstrappers, ingress, number, time, truth};
 use super::{key, signed};
-use p2p_directory::{Config, Ingress, PayloadConfig, Setup};
+use p2p_directory::sized::{Pair, Setup};
+use p2p_directory::{Config, Ingress, PayloadConfig};
 use std::net::SocketAddr;
 use std::num::NonZeroUsize;
 use std::time::Duration;
@@ -13,11 +14,11 @@ use std::time::Duration;
 const NAMESPACE: &[u8] = b"rows";
 
 /// The default settings of a node.
-pub fn default_setup() -> Setup {
+pub fn default_setup<P: Pair>() -> Setup<P> {
     let ingress = Ingress::from(SocketAddr::from(([8, 8, 8, 8], 9_000)));
     Setup {
         bootstrappers: Vec::new(),
-        myself: signed(key(9), NAMESPACE, ingress, 0),
+        myself: signed(key::<P>(9), NAMESPACE, ingress, 0),
         cfg: Config {
             allow_private_ips: true,
             allow_dns: true,
@@ -38,7 +39,7 @@ pub fn default_setup() -> Setup {
 }
 
 /// The setup of a node with these settings. Its info is signed in its namespace.
-pub fn setup(words: &mut Words<'_>) -> Result<Setup, Fault> {
+pub fn setup<P: Pair>(words: &mut Words<'_, P>) -> Result<Setup<P>, Fault> {
     let mut setup = default_setup();
     while let Some(word) = words.optional() {
         let parts = word.split_once('=');
@@ -57,7 +58,7 @@ pub fn setup(words: &mut Words<'_>) -> Result<Setup, Fault> {
 }
 
 // Changes one setting.
-fn set(setup: &mut Setup, name: &str, value: &str) -> Result<(), Fault> {
+fn set<P: Pair>(setup: &mut Setup<P>, name: &str, value: &str) -> Result<(), Fault> {
     match name {
         "max_sets" => {
             let sets = NonZeroUsize::new(number(value)?);
@@ -68,10 +69,10 @@ fn set(setup: &mut Setup, name: &str, value: &str) -> Result<(), Fault> {
         "block" => setup.cfg.block_duration = time(value)?,
         "private" => setup.cfg.allow_private_ips = truth(value)?,
         "dns" => setup.cfg.allow_dns = truth(value)?,
-        "own" => setup.myself.public_key = key(number(value)?),
+        "own" => setup.myself.public_key = key::<P>(number(value)?),
         "own_at" => setup.myself.ingress = ingress(value)?,
         "own_ts" => setup.myself.timestamp = number(value)?,
-        "boot" => setup.bootstrappers = bootstrappers(value)?,
+        "boot" => setup.bootstrappers = bootstrappers::<P>(value)?,
         "max_bit_vec" => setup.payload.max_bit_vec = number(value)?,
         "max_peers" => setup.payload.max_peers = number(value)?,
         "max_data_length" => setup.payload.max_data_length = number(value)?,

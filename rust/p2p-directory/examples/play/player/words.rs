@@ -3,25 +3,27 @@
 use super::fault::Fault;
 use super::usage::Usage;
 use super::{key, signed};
-use p2p_directory::{
-    BitVec, Data, Hostname, Info, Ingress, Key, Moment, OrderedSet, Payload, TrackedPeers,
-};
+use p2p_directory::sized::{Info, OrderedSet, Pair, Payload, TrackedPeers};
+use p2p_directory::{BitVec, Data, Hostname, Ingress, Moment};
+use std::marker::PhantomData;
 use std::net::{IpAddr, Ipv4Addr, Ipv6Addr, SocketAddr};
 use std::num::IntErrorKind;
 use std::str::{FromStr, SplitWhitespace};
 use std::time::Duration;
 
 /// The arguments of a command, which are parsed in turn.
-pub struct Words<'a> {
+pub struct Words<'a, P> {
     words: SplitWhitespace<'a>,
     usage: Usage,
+    sizes: PhantomData<P>,
 }
 
-impl<'a> Words<'a> {
-    pub fn new(text: &'a str, usage: Usage) -> Words<'a> {
+impl<'a, P: Pair> Words<'a, P> {
+    pub fn new(text: &'a str, usage: Usage) -> Words<'a, P> {
         Words {
             words: text.split_whitespace(),
             usage,
+            sizes: PhantomData,
         }
     }
 
@@ -53,8 +55,8 @@ impl<'a> Words<'a> {
         number(self.word()?)
     }
 
-    pub fn peer(&mut self) -> Result<Key, Fault> {
-        Ok(key(self.number()?))
+    pub fn peer(&mut self) -> Result<P::Key, Fault> {
+        Ok(key::<P>(self.number()?))
     }
 
     pub fn truth(&mut self) -> Result<bool, Fault> {
@@ -74,12 +76,12 @@ impl<'a> Words<'a> {
         bytes(self.word()?)
     }
 
-    pub fn infos(&mut self, namespace: &[u8]) -> Result<Vec<Info>, Fault> {
+    pub fn infos(&mut self, namespace: &[u8]) -> Result<Vec<Info<P>>, Fault> {
         list(self.word()?, |word| info(word, namespace))
     }
 
     /// Lists of primary and of secondary peers.
-    pub fn tracked(&mut self) -> Result<TrackedPeers, Fault> {
+    pub fn tracked(&mut self) -> Result<TrackedPeers<P>, Fault> {
         let primary = peers(self.word()?)?;
         let secondary = match self.optional() {
             Some("/") => peers(self.word()?)?,
@@ -103,7 +105,7 @@ impl<'a> Words<'a> {
     }
 
     /// A payload. Infos are signed in the namespace.
-    pub fn payload(&mut self, namespace: &[u8]) -> Result<Payload, Fault> {
+    pub fn payload(&mut self, namespace: &[u8]) -> Result<Payload<P>, Fault> {
         Ok(match self.word()? {
             "greeting" => Payload::Greeting(info(self.word()?, namespace)?),
             "peers" => Payload::Peers(self.infos(namespace)?),
@@ -170,8 +172,8 @@ fn list<T>(word: &str, item: impl Fn(&str) -> Result<T, Fault>) -> Result<Vec<T>
     }
 }
 
-fn peers(word: &str) -> Result<OrderedSet, Fault> {
-    let peers = list(word, |peer| number(peer).map(key))?;
+fn peers<P: Pair>(word: &str) -> Result<OrderedSet<P>, Fault> {
+    let peers = list(word, |peer| number(peer).map(key::<P>))?;
     Ok(OrderedSet::from_iter_dedup(peers))
 }
 
@@ -200,16 +202,16 @@ fn port(word: &str) -> Result<u16, Fault> {
 }
 
 /// Parses a list of bootstrappers, such as `3@1.2.3.4:8003`.
-pub fn bootstrappers(word: &str) -> Result<Vec<(Key, Ingress)>, Fault> {
+pub fn bootstrappers<P: Pair>(word: &str) -> Result<Vec<(P::Key, Ingress)>, Fault> {
     list(word, |entry| {
         let parts = entry.split_once('@');
         let (peer, at) = parts.ok_or_else(|| Fault::form("bootstrappers as 3@1.2.3.4:8003"))?;
-        Ok((key(number(peer)?), ingress(at)?))
+        Ok((key::<P>(number(peer)?), ingress(at)?))
     })
 }
 
 // Parses an info, signed in the namespace unless it names another.
-fn info(word: &str, namespace: &[u8]) -> Result<Info, Fault> {
+fn info<P: Pair>(word: &str, namespace: &[u8]) -> Result<Info<P>, Fault> {
     const FORM: &str = "an info as 1@1000, 1@1000:8001 or 1@1000@1.2.3.4:8001";
     let (word, namespace) = match word.split_once('!') {
         Some((word, other)) => (word, other.as_bytes()),
@@ -225,7 +227,12 @@ fn info(word: &str, namespace: &[u8]) -> Result<Info, Fault> {
     } else {
         (rest, at_port(port_of(peer)?))
     };
-    Ok(signed(key(peer), namespace, ingress, number(timestamp)?))
+    Ok(signed(
+        key::<P>(peer),
+        namespace,
+        ingress,
+        number(timestamp)?,
+    ))
 }
 
 // The port of a peer that names none.

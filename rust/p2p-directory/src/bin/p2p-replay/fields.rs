@@ -1,12 +1,11 @@
 //! What the arguments of a recorded call stand for.
 
-use crate::pair::{
-    BitVec, Config, Info, Ingress, KEY_SIZE, Key, Moment, OrderedSet, Payload, PayloadConfig,
-    Setup, TrackedPeers,
-};
 use p2p_directory::record::{Argument, Call, MOST_ROOM};
+use p2p_directory::sized::{Bytes, Info, OrderedSet, Pair, Payload, Setup, TrackedPeers};
+use p2p_directory::{BitVec, Config, Ingress, Moment, PayloadConfig};
 use std::borrow::Cow;
 use std::error::Error;
+use std::marker::PhantomData;
 use std::num::NonZeroUsize;
 use std::time::Duration;
 
@@ -20,15 +19,23 @@ pub const NO_LIMITS: PayloadConfig = PayloadConfig {
 };
 
 /// The arguments of a call by the names of its parameters.
-pub struct Fields<'a, 'b>(pub &'a Call<'b>);
+pub struct Fields<'a, 'b, P> {
+    pub call: &'a Call<'b>,
+    sizes: PhantomData<P>,
+}
 
-impl<'b> Fields<'_, 'b> {
+impl<'a, 'b, P: Pair> Fields<'a, 'b, P> {
+    pub fn of(call: &'a Call<'b>) -> Fields<'a, 'b, P> {
+        let sizes = PhantomData;
+        Fields { call, sizes }
+    }
+
     fn missing(&self, name: &str) -> Box<dyn Error> {
-        format!("{} has no {name}", self.0.name()).into()
+        format!("{} has no {name}", self.call.name()).into()
     }
 
     pub fn number(&self, name: &str) -> Outcome<u64> {
-        match self.0.argument(name) {
+        match self.call.argument(name) {
             Some(Argument::Number(number)) => Ok(number),
             _ => Err(self.missing(name)),
         }
@@ -44,16 +51,19 @@ impl<'b> Fields<'_, 'b> {
 
     /// The bytes of a slice, with zeros for what isn't recorded of a message.
     pub fn bytes(&self, name: &str) -> Outcome<Cow<'b, [u8]>> {
-        let argument = self.0.argument(name).ok_or_else(|| self.missing(name))?;
+        let argument = self.call.argument(name).ok_or_else(|| self.missing(name))?;
         Ok(argument.bytes(MOST_ROOM)?)
     }
 
-    pub fn peer(&self) -> Outcome<Key> {
-        key(&self.bytes("peer")?)
+    pub fn peer(&self) -> Outcome<P::Key> {
+        key::<P>(&self.bytes("peer")?)
     }
 
-    pub fn keys(&self, name: &str) -> Outcome<Vec<Key>> {
-        self.bytes(name)?.chunks(KEY_SIZE).map(key).collect()
+    pub fn keys(&self, name: &str) -> Outcome<Vec<P::Key>> {
+        self.bytes(name)?
+            .chunks(P::KEY_SIZE)
+            .map(key::<P>)
+            .collect()
     }
 
     pub fn duration(&self, name: &str) -> Outcome<Duration> {
@@ -68,20 +78,20 @@ impl<'b> Fields<'_, 'b> {
     }
 
     pub fn bit_vec(&self) -> Outcome<BitVec> {
-        match tagged(2, &self.bytes("bits")?)? {
+        match tagged::<P>(2, &self.bytes("bits")?)? {
             Payload::BitVec(bits) => Ok(bits),
             other => Err(format!("{other:?} is no bits").into()),
         }
     }
 
-    pub fn infos(&self) -> Outcome<Vec<Info>> {
+    pub fn infos(&self) -> Outcome<Vec<Info<P>>> {
         infos(&self.bytes("infos")?)
     }
 
-    pub fn setup(&self) -> Outcome<Setup> {
+    pub fn setup(&self) -> Outcome<Setup<P>> {
         let max_sets = NonZeroUsize::new(self.size("max_sets")?);
         Ok(Setup {
-            bootstrappers: bootstrappers(&self.bytes("bootstrappers")?)?,
+            bootstrappers: bootstrappers::<P>(&self.bytes("bootstrappers")?)?,
             myself: Info::decode(&self.bytes("myself")?)?,
             cfg: Config {
                 allow_private_ips: self.flag("allow_private_ips")?,
@@ -103,12 +113,12 @@ impl<'b> Fields<'_, 'b> {
     }
 }
 
-pub fn key(bytes: &[u8]) -> Outcome<Key> {
-    Ok(Key::from_slice(bytes).ok_or("these bytes are no key")?)
+pub fn key<P: Pair>(bytes: &[u8]) -> Outcome<P::Key> {
+    Ok(P::Key::of_bytes(bytes).ok_or("these bytes are no key")?)
 }
 
 /// The infos that these bytes encode as a list.
-pub fn infos(list: &[u8]) -> Outcome<Vec<Info>> {
+pub fn infos<P: Pair>(list: &[u8]) -> Outcome<Vec<Info<P>>> {
     match tagged(3, list)? {
         Payload::Peers(infos) => Ok(infos),
         other => Err(format!("{other:?} is no list of infos").into()),
@@ -116,35 +126,33 @@ pub fn infos(list: &[u8]) -> Outcome<Vec<Info>> {
 }
 
 // The payload of a frame with this first byte.
-fn tagged(tag: u8, bytes: &[u8]) -> Outcome<Payload> {
+fn tagged<P: Pair>(tag: u8, bytes: &[u8]) -> Outcome<Payload<P>> {
     let frame = [&[tag][..], bytes].concat();
     Ok(Payload::decode(&frame, &NO_LIMITS)?)
 }
 
-fn bootstrappers(mut bytes: &[u8]) -> Outcome<Vec<(Key, Ingress)>> {
+fn bootstrappers<P: Pair>(mut bytes: &[u8]) -> Outcome<Vec<(P::Key, Ingress)>> {
     let mut all = Vec::new();
-    while let Some((front, rest)) = bytes.split_first_chunk::<KEY_SIZE>() {
+    while let Some((front, rest)) = bytes.split_at_checked(P::KEY_SIZE) {
         // The only front of the rest that encodes an ingress.
         let encoded = (0..=rest.len()).find_map(|length| {
             let ingress = Ingress::decode(&rest[..length]).ok()?;
             Some((length, ingress))
         });
         let (length, ingress) = encoded.ok_or("a bootstrapper has no ingress")?;
-        all.push((key(front)?, ingress));
+        all.push((key::<P>(front)?, ingress));
         bytes = &rest[length..];
     }
     Ok(all)
 }
 
 /// The bytes of keys, one after the other.
-pub fn key_bytes(keys: &OrderedSet) -> Vec<u8> {
-    keys.iter()
-        .flat_map(|key| key.as_bytes().to_vec())
-        .collect()
+pub fn key_bytes<P: Pair>(keys: &OrderedSet<P>) -> Vec<u8> {
+    keys.iter().flat_map(|key| key.as_ref().to_vec()).collect()
 }
 
 /// The number of primary peers, their keys, and the keys of the secondary peers.
-pub fn set_bytes(peers: &TrackedPeers) -> Vec<u8> {
+pub fn set_bytes<P: Pair>(peers: &TrackedPeers<P>) -> Vec<u8> {
     let mut bytes = (peers.primary.len() as u64).to_be_bytes().to_vec();
     bytes.extend(key_bytes(&peers.primary));
     bytes.extend(key_bytes(&peers.secondary));

@@ -19,9 +19,11 @@ mod script;
 mod call;
 
 use modelled::Modelled;
-use p2p_directory as pair;
-use p2p_directory::record::{Answer, Call, Log, MOST_ROOM, ReplayError};
-use p2p_directory::{Replay, keys33_64, keys48_96, keys96_48};
+use p2p_directory::keys33_64::Keys33_64;
+use p2p_directory::keys48_96::Keys48_96;
+use p2p_directory::keys96_48::Keys96_48;
+use p2p_directory::record::{Answer, Call, Log, MOST_ROOM};
+use p2p_directory::{Keys32_64, sized::Pair, sized::Replay};
 use player::{Mode, Tally, play};
 use script::Script;
 use std::error::Error;
@@ -46,8 +48,6 @@ memory counts as not made, and isn't checked.
   --room BYTES   how many bytes a call of the library may ask for, in place of 268435456, for the
                  buffer that it writes and for a message: the log has its first bytes and a checksum,
                  and zeros stand for the others
-
---model, --script and --play are for keys of 32 bytes.
 
 Status: 0 if all is as in the log; 1 if an answer differs, or too many calls weren't checked; 2 if the
 log can't be read or made; 3 if all is as in the log, but its end is missing, or it reached its bound.";
@@ -125,22 +125,34 @@ fn run(options: &Options) -> Result<ExitCode, Box<dyn Error>> {
     let file = &options.file;
     let bytes = fs::read(file).map_err(|error| format!("{file}: {error}"))?;
     let log = Log::read(bytes).map_err(|error| format!("{file}: {error}"))?;
-    if options.way != Way::Library {
-        of_32_bytes(&log)?;
-    }
-    let checked = match options.way {
-        Way::Library => on_the_library(&log, options.room)?,
-        Way::Model => {
-            let mut modelled = Modelled::new();
-            compare(&log, |call| modelled.answer(call))?
+    let header = log.header();
+    let check = match (header.key_size, header.signature_size) {
+        (32, 64) => checked::<Keys32_64>,
+        (33, 64) => checked::<Keys33_64>,
+        (48, 96) => checked::<Keys48_96>,
+        (96, 48) => checked::<Keys96_48>,
+        (key, signature) => {
+            return Err(format!("no keys have {key} bytes with signatures of {signature}").into());
         }
-        Way::Script => Some(as_script(&log)?),
-        Way::Play => by_play(&log)?,
     };
+    let checked = check(&log, options)?;
     Ok(match checked {
         Some(checked) => ended(&log, options, &checked),
         None => ExitCode::FAILURE,
     })
+}
+
+// Checks the calls of a log with these sizes. Returns nothing if an answer differs.
+fn checked<P: Pair>(log: &Log, options: &Options) -> Result<Option<Checked>, Box<dyn Error>> {
+    match options.way {
+        Way::Library => on_the_library::<P>(log, options.room),
+        Way::Model => {
+            let mut modelled = Modelled::<P>::new();
+            compare(log, |call| modelled.answer(call))
+        }
+        Way::Script => as_script::<P>(log).map(Some),
+        Way::Play => by_play::<P>(log),
+    }
 }
 
 // Says what was checked, and whether that is enough.
@@ -203,50 +215,16 @@ fn compare(
     Ok(Some(checked))
 }
 
-/// What makes a call anew.
-type Maker = Box<dyn FnMut(&Call<'_>) -> Result<Answer, ReplayError>>;
-
-/// What makes calls anew, for the sizes of the log.
-fn maker(log: &Log, room: u64) -> Option<Maker> {
-    let header = log.header();
-    Some(match (header.key_size, header.signature_size) {
-        (32, 64) => {
-            let mut replay = Replay::with_room(room)?;
-            Box::new(move |call| replay.make(call))
-        }
-        (33, 64) => {
-            let mut replay = keys33_64::Replay::with_room(room)?;
-            Box::new(move |call| replay.make(call))
-        }
-        (48, 96) => {
-            let mut replay = keys48_96::Replay::with_room(room)?;
-            Box::new(move |call| replay.make(call))
-        }
-        (96, 48) => {
-            let mut replay = keys96_48::Replay::with_room(room)?;
-            Box::new(move |call| replay.make(call))
-        }
-        _ => return None,
-    })
-}
-
-fn on_the_library(log: &Log, room: u64) -> Result<Option<Checked>, Box<dyn Error>> {
-    let mut make = maker(log, room).ok_or("no memory, or no library for keys of this size")?;
+fn on_the_library<P: Pair>(log: &Log, room: u64) -> Result<Option<Checked>, Box<dyn Error>> {
+    let mut replay = Replay::<P>::with_room(room).ok_or("there is no memory")?;
     if log.header().archive != p2p_directory::record::ARCHIVE {
         eprintln!("p2p-replay: another archive of the library answered when this was recorded");
     }
-    compare(log, |call| Ok(make(call)?))
-}
-
-fn of_32_bytes(log: &Log) -> Result<(), Box<dyn Error>> {
-    match (log.header().key_size, log.header().signature_size) {
-        (32, 64) => Ok(()),
-        (key, _) => Err(format!("keys have {key} bytes: the model and play have 32").into()),
-    }
+    compare(log, |call| Ok(replay.make(call)?))
 }
 
 // What a script has of the calls of a log.
-fn scripted(log: &Log, script: &Script) -> Checked {
+fn scripted<P: Pair>(log: &Log, script: &Script<P>) -> Checked {
     let out_of_memory = log.calls().filter(|call| call.answer.is_out_of_memory());
     Checked {
         calls: log.calls().count() as u64,
@@ -255,18 +233,18 @@ fn scripted(log: &Log, script: &Script) -> Checked {
     }
 }
 
-fn as_script(log: &Log) -> Result<Checked, Box<dyn Error>> {
-    let script = Script::of(log)?;
+fn as_script<P: Pair>(log: &Log) -> Result<Checked, Box<dyn Error>> {
+    let script = Script::<P>::of(log)?;
     for line in script.lines() {
         println!("{line}");
     }
     Ok(scripted(log, &script))
 }
 
-fn by_play(log: &Log) -> Result<Option<Checked>, Box<dyn Error>> {
-    let script = Script::of(log)?;
+fn by_play<P: Pair>(log: &Log) -> Result<Option<Checked>, Box<dyn Error>> {
+    let script = Script::<P>::of(log)?;
     let lines = script.lines().join("\n") + "\n";
-    let tally: Tally = play(lines.as_bytes(), &mut io::stdout().lock(), Mode::Checks)?;
+    let tally: Tally = play::<P>(lines.as_bytes(), &mut io::stdout().lock(), Mode::Checks)?;
     println!("{tally}");
     Ok(tally.is_good().then(|| scripted(log, &script)))
 }

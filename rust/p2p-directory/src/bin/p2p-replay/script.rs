@@ -3,11 +3,10 @@
 use crate::fields::{Fields, NO_LIMITS, Outcome, infos};
 use crate::player::printed::{bit_vec, hexadecimal, info, infos as printed_infos, ingress, keys};
 use crate::player::printed::{option, or_none};
+use crate::player::{key, signed};
 use p2p_directory::record::{Argument, Call, Log};
-use p2p_directory::testing::sign;
-use p2p_directory::{
-    BitVec, Info, KEY_SIZE, Key, Moment, Payload, PayloadConfig, SIGNATURE_SIZE, Setup, Signature,
-};
+use p2p_directory::sized::{Bytes, Info, Pair, Payload, Setup};
+use p2p_directory::{BitVec, Moment, PayloadConfig};
 use p2p_directory_sys as exports;
 use std::collections::{BTreeMap, BTreeSet};
 use std::time::Duration;
@@ -19,18 +18,18 @@ const NAMESPACE: &[u8] = b"rows";
 const LONGEST_LINE: usize = 1 << 20;
 
 /// The lines of a script: each call of the log that `play` has a command for, and its reply.
-pub struct Script {
-    numbers: BTreeMap<Key, u64>,
+pub struct Script<P: Pair> {
+    numbers: BTreeMap<P::Key, u64>,
     limits: PayloadConfig,
     lines: Vec<String>,
     without_command: u64,
 }
 
-impl Script {
-    pub fn of(log: &Log) -> Outcome<Script> {
+impl<P: Pair> Script<P> {
+    pub fn of(log: &Log) -> Outcome<Script<P>> {
         let mut all = BTreeSet::new();
         for call in log.calls() {
-            all.extend(keys_of(&call)?);
+            all.extend(keys_of::<P>(&call)?);
         }
         let mut script = Script {
             numbers: all.into_iter().zip(1..).collect(),
@@ -57,7 +56,7 @@ impl Script {
 
     // Appends the command of a call and its reply, if there is a command.
     fn add(&mut self, call: &Call<'_>) -> Outcome<()> {
-        let fields = Fields(call);
+        let fields = Fields::<P>::of(call);
         let told = match call.name() {
             "init" => {
                 let setup = fields.setup()?;
@@ -81,39 +80,32 @@ impl Script {
         Ok(())
     }
 
-    fn number(&self, key: &Key) -> u64 {
+    fn number(&self, key: &P::Key) -> u64 {
         self.numbers[key]
     }
 
     // The key that `play` has for the number of a key.
-    fn numbered(&self, key: &Key) -> Key {
-        let mut bytes = [0; KEY_SIZE];
-        bytes[KEY_SIZE - 8..].copy_from_slice(&self.number(key).to_be_bytes());
-        Key(bytes)
+    fn numbered(&self, of: &P::Key) -> P::Key {
+        key::<P>(self.number(of))
     }
 
-    fn all_numbered(&self, bytes: &[u8]) -> Vec<Key> {
-        let keys = bytes.chunks_exact(KEY_SIZE).filter_map(Key::from_slice);
+    fn all_numbered(&self, bytes: &[u8]) -> Vec<P::Key> {
+        let keys = bytes.chunks_exact(P::KEY_SIZE);
+        let keys = keys.filter_map(P::Key::of_bytes);
         keys.map(|key| self.numbered(&key)).collect()
     }
 
     // The info with the numbered key, signed anew.
-    fn signed(&self, info: &Info) -> Info {
+    fn signed(&self, info: &Info<P>) -> Info<P> {
         let key = self.numbered(&info.public_key);
-        Info::sign(
-            key,
-            NAMESPACE,
-            info.ingress.clone(),
-            info.timestamp,
-            |space, message| sign(&key, space, message),
-        )
+        signed(key, NAMESPACE, info.ingress.clone(), info.timestamp)
     }
 
-    fn all_signed(&self, all: &[Info]) -> Vec<Info> {
+    fn all_signed(&self, all: &[Info<P>]) -> Vec<Info<P>> {
         all.iter().map(|info| self.signed(info)).collect()
     }
 
-    fn settings(&self, setup: &Setup) -> String {
+    fn settings(&self, setup: &Setup<P>) -> String {
         let boot = setup.bootstrappers.iter();
         let boot = boot.map(|(key, at)| format!("{}@{}", self.number(key), ingress(at)));
         let boot = listed(boot.collect());
@@ -138,15 +130,15 @@ impl Script {
         )
     }
 
-    fn changed(&self, name: &str, fields: &Fields<'_, '_>) -> Outcome<Option<(String, String)>> {
-        let answer = &fields.0.answer;
+    fn changed(&self, name: &str, fields: &Fields<'_, '_, P>) -> Outcome<Option<(String, String)>> {
+        let answer = &fields.call.answer;
         let truth = || (answer.number == 1).to_string();
         Ok(Some(match name {
             "track" => {
                 let sets = ["primary", "secondary"].map(|role| fields.keys(role));
                 let [primary, secondary] = sets;
                 let lists = (self.list(&primary?), self.list(&secondary?));
-                let torn = self.given(fields, |bytes| keys(&self.all_numbered(bytes)));
+                let torn = self.given(fields, |bytes| keys::<P>(&self.all_numbered(bytes)));
                 let index = fields.number("index")?;
                 (
                     format!("track {index} {} / {}", lists.0, lists.1),
@@ -194,8 +186,8 @@ impl Script {
         }))
     }
 
-    fn asked(&self, name: &str, fields: &Fields<'_, '_>) -> Outcome<Option<(String, String)>> {
-        let answer = &fields.0.answer;
+    fn asked(&self, name: &str, fields: &Fields<'_, '_, P>) -> Outcome<Option<(String, String)>> {
+        let answer = &fields.call.answer;
         // A buffer that was too short is asked with once more.
         if answer.number != exports::NONE && answer.bytes.len() as u64 != answer.number {
             match name {
@@ -216,7 +208,7 @@ impl Script {
             "tracked" => ("tracked".into(), answer.number.to_string()),
             "next_unblock" => ("next_unblock".into(), option(self.given(fields, moment))),
             "blocked_peers" => {
-                let blocked = keys(&self.all_numbered(&answer.bytes));
+                let blocked = keys::<P>(&self.all_numbered(&answer.bytes));
                 (format!("blocked_peers {}", fields.now()?), blocked)
             }
             "dialable" => (
@@ -224,13 +216,13 @@ impl Script {
                 self.dialable(&answer.bytes),
             ),
             "info" => {
-                let known = self.given(fields, |bytes| Info::decode(bytes).ok());
+                let known = self.given(fields, |bytes| Info::<P>::decode(bytes).ok());
                 let known = known.flatten().map(|known| info(&self.signed(&known)));
                 (format!("info {}", self.peer(fields)?), or_none(known))
             }
             "infos" => {
                 let BitVec { index, bits } = fields.bit_vec()?;
-                let shared = self.given(fields, |bytes| infos(bytes).unwrap_or_default());
+                let shared = self.given(fields, |bytes| infos::<P>(bytes).unwrap_or_default());
                 let shared = shared.map(|all| printed_infos(&self.all_signed(&all)));
                 let command = format!("infos {index} {} {}", digits(bits), fields.now()?);
                 (command, option(shared))
@@ -239,7 +231,7 @@ impl Script {
                 let command = format!("bits {}", fields.number("place")?);
                 let bits = self.given(fields, |bytes| {
                     let frame = [&[2][..], bytes].concat();
-                    match Payload::decode(&frame, &NO_LIMITS) {
+                    match Payload::<P>::decode(&frame, &NO_LIMITS) {
                         Ok(Payload::BitVec(bits)) => bit_vec(&bits),
                         other => format!("{other:?}"),
                     }
@@ -255,14 +247,15 @@ impl Script {
     }
 
     // The frame with numbered keys and new signatures, bad ones where the verdict was bad.
-    fn received(&self, fields: &Fields<'_, '_>) -> Outcome<(String, String)> {
+    fn received(&self, fields: &Fields<'_, '_, P>) -> Outcome<(String, String)> {
         let (frame, verdicts) = (fields.bytes("frame")?, fields.bytes("verdicts")?);
-        let judged = |all: &[Info]| -> Vec<Info> {
+        let judged = |all: &[Info<P>]| -> Vec<Info<P>> {
             let places = all.iter().enumerate();
             let signed = places.map(|(place, info)| {
                 let mut info = self.signed(info);
                 if verdicts.get(place).is_none_or(|byte| *byte == 0) {
-                    info.signature = Signature([1; SIGNATURE_SIZE]);
+                    let wrong = P::Signature::of_bytes(&vec![1; P::SIGNATURE_SIZE]);
+                    info.signature = wrong.expect("bytes of a signature");
                 }
                 info
             });
@@ -277,7 +270,7 @@ impl Script {
             Ok(Payload::Peers(all)) => Payload::Peers(judged(&all)).encode(),
             Ok(Payload::Data(_) | Payload::BitVec(_)) | Err(_) => frame.to_vec(),
         };
-        let reply = self.outcome(&frame, &fields.0.answer.bytes)?;
+        let reply = self.outcome(&frame, &fields.call.answer.bytes)?;
         Ok((
             format!("receive {} {}", hexadecimal(&frame), fields.now()?),
             reply,
@@ -298,7 +291,7 @@ impl Script {
                 format!("Data(Data({}, {}))", number(0)?, hexadecimal(message))
             }
             1 => "Greeted".into(),
-            2 => match Payload::decode(rest, &NO_LIMITS)? {
+            2 => match Payload::<P>::decode(rest, &NO_LIMITS)? {
                 Payload::Peers(all) => {
                     let reply = Payload::Peers(self.all_signed(&all)).encode();
                     format!("Reply({})", hexadecimal(&reply))
@@ -306,7 +299,7 @@ impl Script {
                 other => return Err(format!("{other:?} is no reply").into()),
             },
             3 => format!("Applied({})", number(0)?),
-            4 => match Payload::decode(frame, &self.limits) {
+            4 => match Payload::<P>::decode(frame, &self.limits) {
                 Err(error) => format!("Codec({error:?})"),
                 Ok(_) => return Err("a frame that decodes is told as none".into()),
             },
@@ -325,11 +318,11 @@ impl Script {
         })
     }
 
-    fn peer(&self, fields: &Fields<'_, '_>) -> Outcome<u64> {
+    fn peer(&self, fields: &Fields<'_, '_, P>) -> Outcome<u64> {
         Ok(self.number(&fields.peer()?))
     }
 
-    fn list(&self, keys: &[Key]) -> String {
+    fn list(&self, keys: &[P::Key]) -> String {
         listed(
             keys.iter()
                 .map(|key| self.number(key).to_string())
@@ -338,8 +331,8 @@ impl Script {
     }
 
     // What the bytes of an answer stand for, or `None` if there is none.
-    fn given<T>(&self, fields: &Fields<'_, '_>, read: impl FnOnce(&[u8]) -> T) -> Option<T> {
-        let answer = &fields.0.answer;
+    fn given<T>(&self, fields: &Fields<'_, '_, P>, read: impl FnOnce(&[u8]) -> T) -> Option<T> {
+        let answer = &fields.call.answer;
         (answer.number != exports::NONE).then(|| read(&answer.bytes))
     }
 
@@ -349,7 +342,7 @@ impl Script {
             Some((_, rest)) => (None, rest),
             None => (None, &[][..]),
         };
-        format!("{} {}", keys(&self.all_numbered(peers)), option(next))
+        format!("{} {}", keys::<P>(&self.all_numbered(peers)), option(next))
     }
 }
 
@@ -361,9 +354,9 @@ fn is_long_message(call: &Call<'_>, lines: &[String]) -> bool {
 }
 
 // All keys of a call, those of infos in frames that decode among them.
-fn keys_of(call: &Call<'_>) -> Outcome<Vec<Key>> {
-    let fields = Fields(call);
-    let named = |all: Vec<Info>| all.into_iter().map(|info| info.public_key).collect();
+fn keys_of<P: Pair>(call: &Call<'_>) -> Outcome<Vec<P::Key>> {
+    let fields = Fields::<P>::of(call);
+    let named = |all: Vec<Info<P>>| all.into_iter().map(|info| info.public_key).collect();
     Ok(match call.name() {
         "init" => {
             let setup = fields.setup()?;
