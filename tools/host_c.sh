@@ -1,8 +1,8 @@
 #!/bin/sh
-# Compiles examples/session.c as C++11 and C++17 without a warning, links it with the archive and runs it under valgrind.
-# For each pair of sizes in tools/exports/session.table the same as C99, and as C11, and
+# Compiles examples/session.c as C++11 and C++17 without a warning, links it with the archive and runs it, as C++17 under
+# valgrind. For each pair of sizes in tools/exports/session.table it does the same as C11, and
 # - looks that the program has the code of its pair alone;
-# - runs it where an export that is handed a null pointer ends the program;
+# - runs it, as C99, where an export that is handed a null pointer ends the program;
 # - runs it, and calls with 1,000 peers, in threads with half of the stack that the header tells of.
 #
 # Then it runs a program that uses all pairs, sees that the compiler refuses a session of one pair to the calls of another,
@@ -56,9 +56,12 @@ has_only() {
 for standard in c++11 c++17; do
     # shellcheck disable=SC2086 # lists of words
     g++ -std=$standard $strict -I include -x c++ examples/session.c -x none $linked -o "$folder/$standard"
-    echo "examples/session.c as $standard:"
-    under_valgrind "$folder/$standard"
 done
+echo 'examples/session.c as C++11 and C++17:'
+"$folder/c++11" > "$folder/lines"
+under_valgrind "$folder/c++17" > "$folder/told"
+cat "$folder/told"
+cmp "$folder/lines" "$folder/told" || fail 'C++11 and C++17 print other lines'
 # Another C library: the archive calls nothing of it but the functions of memory.
 if command -v musl-gcc > /dev/null; then
     # shellcheck disable=SC2086 # lists of words
@@ -77,19 +80,18 @@ while read -r pair key signature firsts; do
     of_pair tools/host_stack.c "$pair" > "$folder/stack.c"
     # shellcheck disable=SC2086 # lists of words
     {
-        cc -std=c99 $strict $first -I include "$folder/session.c" $linked -o "$folder/c99"
         cc -std=c11 $strict $first -I include "$folder/session.c" $linked -o "$folder/session"
-        cc -std=c11 $strict $first -fsanitize=nonnull-attribute -fsanitize-undefined-trap-on-error -I "$folder/nonnull" \
+        cc -std=c99 $strict $first -fsanitize=nonnull-attribute -fsanitize-undefined-trap-on-error -I "$folder/nonnull" \
             "$folder/session.c" $linked -o "$folder/nonnull/session"
         cc -std=c11 $strict $first -I include -D main=session_main -c "$folder/session.c" -o "$folder/session.o"
         cc -std=c11 $strict $first -I include "$folder/stack.c" "$folder/session.o" $linked -pthread -o "$folder/stack"
     }
     echo "examples/session.c as C99 and C11 with keys of $key bytes and signatures of $signature:"
-    under_valgrind "$folder/c99" > "$folder/lines"
-    under_valgrind "$folder/session" | tee "$folder/told"
-    cmp "$folder/lines" "$folder/told" || fail "C99 and C11 print other lines for $pair"
+    under_valgrind "$folder/session" > "$folder/told"
+    cat "$folder/told"
     has_only "$folder/session" "$pair"
     "$folder/nonnull/session" > "$folder/lines" || fail "an export of $pair is handed a null pointer"
+    cmp "$folder/lines" "$folder/told" || fail "C99 and C11 print other lines for $pair"
     "$folder/stack" > "$folder/lines" || fail "the stack is not enough for $pair"
     grep 'bytes of stack' "$folder/lines"
 done < "$folder/pairs"
