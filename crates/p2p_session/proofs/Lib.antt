@@ -8,3 +8,5 @@ pub mod Compared
 pub mod Bootstrappers
 pub mod Setups
 pub mod Keys
+pub mod Requests
+pub mod Spellings

@@ -8,6 +8,7 @@ pub mod Given
 pub mod Views
 pub mod Frames
 pub mod Sessions
+pub mod Requests
 pub mod Addresses
 -- The law of whole sessions.
 pub mod Laws

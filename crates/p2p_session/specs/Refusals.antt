@@ -21,3 +21,7 @@ number_of BadBits = 2 ^ 64 - 10
 number_of BadMoment = 2 ^ 64 - 11
 number_of BadSetting = 2 ^ 64 - 12
 number_of BadVerdicts = 2 ^ 64 - 13
+
+-- .. where number and arguments of a call are no request: it comes before all others
+abbrev pub bad_call : ℕ
+bad_call = 2 ^ 64 - 14

@@ -11,6 +11,7 @@ ghost use Rattle.p2p_session.specs.Schemes.{scheme, wire};
 ghost use Rattle.p2p_session.specs.Given.{Asked};
 ghost use Rattle.p2p_session.specs.Frames.{Hears, ReceivesOf, greeter_in};
 ghost use Rattle.p2p_session.specs.Sessions.{InitsBy, Serves};
+ghost use Rattle.p2p_session.specs.Requests.{Request, ServesRequest, AreSpelledOnce};
 ghost use Rattle.p2p_session.specs.Laws.{Goes, GoOn};
 ghost use Rattle.p2p_session.specs.declared.session.Session.{Session};
 ghost use Rattle.p2p_session.specs.declared.setup.Numbers.{Numbers};
@@ -21,7 +22,7 @@ use p2p_discovery::codec::PublicKey;
 /// were accepted since it was created. A call that is served, or a frame that is processed, leads
 /// from each point to the same or to the one after it, and `init` leads to the first. So all that
 /// is promised of a run holds of the node behind a host's pointer, call after call. All other calls
-/// leave it as it is.
+/// leave it as it is. What is asked for by a number, in `call`, leads as the call of this number.
 pub fn sessions_go_on<C: PublicKey>()
     ensures served { (given : Asked C C.Signature) (out out2 : List ℕ)
         (o o2 : Option (NodeView C C.Signature)) (n : ℕ) →
@@ -31,6 +32,10 @@ pub fn sessions_go_on<C: PublicKey>()
         (o o2 : Option (NodeView C C.Signature)) (n : ℕ) →
         ReceivesOf (scheme C.PublicKey C.Signature.FixedBytes) frame seconds nanos verdicts out
         out2 o o2 n → Goes (scheme C.PublicKey C.Signature.FixedBytes) o o2 }
+    ensures requested { (asked : Option (Request C C.Signature)) (out out2 : List ℕ)
+        (before after : Session C C.Signature) (n : ℕ) →
+        ServesRequest (scheme C.PublicKey C.Signature.FixedBytes) asked out out2 before after n →
+        Goes (scheme C.PublicKey C.Signature.FixedBytes) before.node after.node }
     ensures made { (numbers : Numbers) (namespace bootstrappers myself : List ℕ)
         (before after : Session C C.Signature) (n : ℕ) →
         InitsBy (scheme C.PublicKey C.Signature.FixedBytes) numbers namespace bootstrappers myself
@@ -57,4 +62,11 @@ pub fn frames_hold_what_is_returned<C: PublicKey>()
         (i : Info C C.Signature) × (frame ≡ w.spelling (said.Greeting i))
         × (greeter_in (scheme C.PublicKey C.Signature.FixedBytes)
         (whole (w.reading v.limits) frame).outcome ≡ C.spelled i.public_key) }
+{}
+
+/// By a law of requests, one request has one encoding for [`Session::call`](crate::Session::call):
+/// its number, numbers and bytes. One that is refused since an argument can't be decoded may have
+/// more.
+pub fn requests_have_one_encoding<C: PublicKey>()
+    ensures { AreSpelledOnce (scheme C.PublicKey C.Signature.FixedBytes) }
 {}

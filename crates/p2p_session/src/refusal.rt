@@ -38,6 +38,10 @@ pub enum Refusal {
     BadVerdicts,
 }
 
+/// What [`Session::call`](crate::Session::call) returns where number and arguments are no request:
+/// the number behind those of all refusals. It comes before each of them, [`Refusal::NoNode`] too.
+pub const BAD_CALL: u64 = u64::MAX - 13;
+
 impl Refusal {
     /// The number that a call returns for this refusal. These numbers are at the top of `u64`,
     /// above every length.

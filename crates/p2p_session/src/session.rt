@@ -21,6 +21,7 @@ use std::alloc::Global;
 
 mod calls;
 mod questions;
+mod requests;
 
 /// A node, once [`Session::init`] created one, and the frame that [`Session::check`] decoded last. It
 /// must be consumed by [`Session::end`].

@@ -1,4 +1,4 @@
-use Rattle.std.proofs.Common.{◌≡◌, inl, inr, ℕ, Bool, true, false, List, [], ◌∷◌, Option, Some, None, Result, Ok, Err, refl, sym, subst}
+use Rattle.std.proofs.Common.{◌≡◌, inl, inr, ℕ, Bool, true, false, List, [], ◌∷◌, Option, Some, None, Result, Ok, Err, refl, sym, ap, subst}
 use Rattle.std.specs.Prelude.{if◌then◌else◌}
 use Rattle.p2p_discovery.specs.declared.discovery.Info.{Info}
 use Rattle.p2p_tracker.specs.Calls.{Call}
@@ -12,6 +12,10 @@ use Rattle.p2p_session.specs.Frames.{ReceivesAt, ReceivesOf, HearsAt}
 use Rattle.p2p_session.specs.Given.{Asked, moment_at}
 use Rattle.p2p_session.specs.Laws.{Goes, GoOn, IsNext}
 use Rattle.p2p_session.specs.Sessions.{Serves, IsMade}
+use Rattle.p2p_session.specs.Requests.{Request, ServesRequest}
+use Rattle.p2p_session.specs.Requests.Request.{Numbered, Written, SetOf, Infos, Bits, Frame, Room, Retained, NextCooled, Held, Wanted, Check, Init}
+use Rattle.p2p_session.specs.declared.session.Session.{Session}
+use Rattle.std.proofs.lemmas.Bool.Decides.{eqb_tells}
 use Rattle.p2p_directory.specs.declared.node.setup.Setup.{Setup}
 use Rattle.p2p_session.proofs.laws.sessions_go_on.Goals as goal
 use Rattle.p2p_directory.specs.Nodes.{NodeView}
@@ -71,6 +75,34 @@ module _ {C S : Type 0} (k : Scheme C S) where
   makes o None given e h = absurd h
   makes o (Some v) given e h = let P : Option (NodeView C S) → Type 0 = λ u. Goes k u (Some v) in subst P (sym e) (given, h)
 
+  unchanged : (before after : Session C S) → after ≡ before → Goes k before.node after.node
+  unchanged before after e = same before.node after.node (ap (λ s. s.node) e)
+
+  requests : (asked : Option (Request C S)) (out out2 : List ℕ) (before after : Session C S) (n : ℕ) →
+      ServesRequest k asked out out2 before after n → Goes k before.node after.node
+  requests None out out2 before after n h = unchanged before after h.1
+  requests (Some (Numbered given)) out out2 before after n h = serves given [] [] before.node after.node n h.1
+  requests (Some (Written given)) out out2 before after n h = serves given out out2 before.node after.node n h
+  requests (Some (SetOf index primary secondary)) out out2 before after n (inl h) = unchanged before after h.1
+  requests (Some (SetOf index primary secondary)) out out2 before after n (inr h) =
+      serves h.0.0 out out2 before.node after.node n h.0.2
+  requests (Some (Infos infos)) out out2 before after n h = serves h.1.0 [] [] before.node after.node n h.1.2
+  requests (Some (Bits bits seconds nanos)) out out2 before after n h =
+      serves h.0 out out2 before.node after.node n h.2
+  requests (Some (Frame frame seconds nanos verdicts)) out out2 before after n h =
+      receives frame seconds nanos verdicts out out2 before.node after.node n h
+  requests (Some Room) out out2 before after n h = unchanged before after h.1.0
+  requests (Some Retained) out out2 before after n h = unchanged before after h.1.0
+  requests (Some NextCooled) out out2 before after n h = unchanged before after h.0
+  requests (Some (Held peer)) out out2 before after n h = unchanged before after h.0
+  requests (Some (Wanted place)) out out2 before after n h = unchanged before after h.0
+  requests (Some (Check frame seconds nanos)) out out2 before after n h = unchanged before after h.0
+  requests (Some (Init numbers namespace bootstrappers myself)) out out2 before after n h =
+      elim (eqb_tells n 1) [
+        | inl is ↦ let made = h.1.made is.1 in makes before.node after.node made.1.0 made.0 made.1.2
+        | inr other ↦ same before.node after.node ((h.1.refused other.1).0)
+      ]
+
   -- by the calls before: the newest node is new, or it stands at the next calls
   somewhere : (before : List (Option (NodeView C S))) (v : NodeView C S) → GoOn k (Some v ∷ before) → StandsSomewhere k.key.cmp v
   somewhere [] v h = absurd cc
@@ -85,6 +117,9 @@ returns-clause-served g c = serves (scheme_by g.C.PartialOrd g.C.Ord g.C.Partial
 
 pub returns-clause-received : goal.returns-clause-received
 returns-clause-received g c = receives (scheme_by g.C.PartialOrd g.C.Ord g.C.PartialEq g.C.FixedBytes g.C.PublicKey g.C.Signature.PartialEq g.C.Signature.FixedBytes)
+
+pub returns-clause-requested : goal.returns-clause-requested
+returns-clause-requested g c = requests (scheme_by g.C.PartialOrd g.C.Ord g.C.PartialEq g.C.FixedBytes g.C.PublicKey g.C.Signature.PartialEq g.C.Signature.FixedBytes)
 
 pub returns-clause-made : goal.returns-clause-made
 returns-clause-made g c = λ numbers namespace bootstrappers myself before after n h one.
