@@ -1,5 +1,7 @@
 //! The results of a directory's queries, as text to be compared, and the marks.
 
+ghost use Rattle.std.specs.Prelude.{◌≡◌, Ok, true, false, string_bytes};
+
 use p2p_directory::directory::Directory;
 use p2p_discovery::codec::TestKey;
 use p2p_discovery::discovery::BitVec;
@@ -117,7 +119,10 @@ pub fn compares(
     what: &'static str,
     one: &String,
     other: &String,
-) -> Result<bool, AllocError> {
+) -> Result<bool, AllocError>
+    ensures same { result ≡ Ok true → string_bytes one.now ≡ string_bytes other.now }
+    ensures differ { result ≡ Ok false → ¬ (string_bytes one.now ≡ string_bytes other.now) }
+{
     let is_same = one.as_str() == other.as_str();
     let told = if is_same { "the same" } else { "not the same" };
     write!(text, "{what}: {told}\n")?;
