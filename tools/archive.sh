@@ -1,6 +1,6 @@
 #!/bin/sh
-# Builds the archive of the library, crates/p2p_session_c/out/libp2p_session_c.a, and puts the toolchain's heap beside
-# it, and PROVED, what was proved of it. By hand it proves what `rt check` has not proved yet, which may take an hour.
+# Builds the archive of the library, crates/p2p_session_c/out/libp2p_session.a, of which the toolchain's heap is a part, and
+# beside it PROVED, what was proved of it. By hand it proves what `rt check` has not proved yet, which may take an hour.
 # With --after-ci it takes the libraries that `rt ci` left, so that p2p_session_c alone is proved again.
 #
 # usage: tools/archive.sh [--after-ci LOG], what `rt ci` printed
@@ -35,6 +35,9 @@ fi
 { (cd "$folder" && "$@") 2>&1 && echo 0 > "$kept/status" || echo $? > "$kept/status"; } | tee "$kept/log"
 status=$(cat "$kept/status")
 [ "$status" -eq 0 ] || exit "$status"
-cp "$kit/c/liblibc_c.a" "$folder/out/"
+library=$PWD/$folder/out/libp2p_session_c.a
+(cd "$kept" && ar x "$library" p2p_session_c.o && ar x "$kit/c/liblibc_c.a" heap.pic.o)
+(cd "$kept" && ar rcsD libp2p_session.a p2p_session_c.o heap.pic.o)
+cp "$kept/libp2p_session.a" "$folder/out/"
 tools/proved.sh "$kept/before" "$kept/log" > "$folder/out/PROVED"
-echo "built $folder/out/libp2p_session_c.a"
+echo "built $folder/out/libp2p_session.a"

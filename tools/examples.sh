@@ -4,7 +4,7 @@
 set -eu
 cd "$(dirname "$0")/.."
 if [ "${1:-}" = --check ]; then
-    exec diff -r --exclude='*.c' examples crates/play/data/examples
+    exec diff -r --exclude='*.c' --exclude='*.py' examples crates/play/data/examples
 fi
 mkdir -p crates/play/data/examples
 cp examples/*.txt crates/play/data/examples/

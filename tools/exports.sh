@@ -1,7 +1,7 @@
 #!/bin/sh
-# Writes the exports of a session for C and Rust, with their proofs, from tools/exports/session.table:
-# crates/p2p_session_c, include/p2p_session.h, each with the folder beside it rust/p2p-directory-sys/src/exports.rs and
-# rust/p2p-directory/src/pairs.rs, and what recorded.py says of rust/p2p-directory/src.
+# Writes what tools/exports/session.table says: crates/p2p_session_c with its proofs, the headers in include/, the table of
+# calls in docs/C.md, and what the Rust crates have of pairs of sizes. What an earlier run wrote and this one doesn't is
+# deleted.
 # With --check it writes them in a folder of its own and says whether they are the same, and whether the refusals of
 # p2p_session, of its specs and of docs/C.md are those of the table.
 set -eu
@@ -18,10 +18,11 @@ python3 tools/exports/exports.py tools/exports/session.table "$root"
 (cd "$root/crates/p2p_session_c" && rt fmt > /dev/null)
 if [ "${1:-}" = --check ]; then
     tools/exports/refusals.py
-    for written in crates/p2p_session_c/src crates/p2p_session_c/proofs include/p2p_session.h \
-        rust/p2p-directory-sys/src/exports.rs rust/p2p-directory-sys/src/exports \
-        rust/p2p-directory/src/pairs.rs rust/p2p-directory/src/pairs rust/p2p-directory/src/record/calls.rs \
-        rust/p2p-directory/src/sized/session.rs rust/p2p-directory/src/sized/replay.rs; do
-        diff -r "$written" "$root/$written"
+    rm "$root/crates.txt" "$root/HANDLES"
+    for folder in crates/p2p_session_c/src crates/p2p_session_c/proofs crates/p2p_session_c/specs include; do
+        diff -r "$folder" "$root/$folder"
+    done
+    (cd "$root" && find . -type f) | while read -r file; do
+        diff "$file" "$root/$file"
     done
 fi

@@ -1,12 +1,13 @@
 #!/bin/sh
-# Compiles examples/session.c as C++11 and C++17 without a warning, links it with the archive and runs it, as C++17 under
-# valgrind. For each pair of sizes in tools/exports/session.table it does the same as C11, and
-# - looks that the program has the code of its pair alone;
+# Compiles examples/session.c as tools/host_compilers.sh does, links it with the archive and runs it. For each pair of sizes in
+# tools/exports/session.table it
+# - runs it under valgrind, and looks that the program has the code of its pair alone;
 # - runs it, as C99, where an export that is handed a null pointer ends the program;
 # - runs it, and calls with 1,000 peers, in threads with half of the stack that the header tells of.
 #
-# Then it runs a program that uses all pairs, sees that the compiler refuses a session of one pair to the calls of another,
-# and that no host links that was compiled for another interface.
+# Then it runs a program that uses all pairs, and examples/session.py with a shared library, by which it also looks whether
+# each call answers in the forms of tools/exports/forms.txt. It sees that the compiler refuses a session of one pair to the
+# calls of another, and that no host links that was compiled for another interface.
 #
 # usage: tools/host_c.sh [FOLDER], the folder with libp2p_session.a, or libp2p_session_c.a and liblibc_c.a, by default
 # the one in which the Rust crates carry it
@@ -14,14 +15,14 @@ set -eu
 cd "$(dirname "$0")/.."
 archives=${1:-rust/p2p-directory-sys/prebuilt/x86_64-unknown-linux-gnu}
 tools/installed.sh cc:gcc g++ nm:binutils python3 valgrind
+tools/host_compilers.sh "$archives"
 folder=$(mktemp -d)
 trap 'rm -rf "$folder"' EXIT
 export LC_ALL=C
 
 table=tools/exports/session.table
 strict='-g -Wall -Wextra -pedantic -Werror'
-linked="-L $archives -lp2p_session -Wl,--gc-sections"
-[ -f "$archives/libp2p_session.a" ] || linked="-L $archives -lp2p_session_c -llibc_c -Wl,--gc-sections"
+linked="-L $archives -lp2p_session"
 
 fail() {
     echo "$1" >&2
@@ -35,10 +36,11 @@ under_valgrind() {
 sed -n -e 's/:.*//' -e 's/ first / /g' -e 's/^pair \([0-9]*\) \([0-9]*\)/p2p_session_\1_\2 \1 \2/p' $table |
     sed '1s/^[^ ]*/p2p_session/' > "$folder/pairs"
 
-# A source that is written for the first pair, for another: its calls, type and sizes have these in their names.
+# A source that is written for the first pair, for another: its header, calls, type and sizes have these in their names.
 of_pair() {
     [ "$2" != p2p_session ] || { cat "$1"; return; }
-    sed -e "s/p2p_session_\([a-z_]*\)(/$2_\1(/g" -e "s/$2_is_/p2p_session_is_/g" -e "s/struct p2p_session\b/struct $2/g" \
+    sed -e "s/p2p_session_\([a-z_]*\)(/$2_\1(/g" -e "s/$2_\(is_\|refusal_\)/p2p_session_\1/g" \
+        -e "s/struct p2p_session\b/struct $2/g" -e "s/\"p2p_session\.h\"/\"$2.h\"/" \
         -e "s/P2P_SESSION_\(KEY_SIZE\|SIGNATURE_SIZE\|RECEIVE_ROOM\)/$(echo "$2" | tr '[:lower:]' '[:upper:]')_\1/g" "$1"
 }
 
@@ -53,34 +55,17 @@ has_only() {
         fail "a program of $2 has these of another pair"
 }
 
-for standard in c++11 c++17; do
-    # shellcheck disable=SC2086 # lists of words
-    g++ -std=$standard $strict -I include -x c++ examples/session.c -x none $linked -o "$folder/$standard"
-done
-echo 'examples/session.c as C++11 and C++17:'
-"$folder/c++11" > "$folder/lines"
-under_valgrind "$folder/c++17" > "$folder/told"
-cat "$folder/told"
-cmp "$folder/lines" "$folder/told" || fail 'C++11 and C++17 print other lines'
-# Another C library: the archive calls nothing of it but the functions of memory.
-if command -v musl-gcc > /dev/null; then
-    # shellcheck disable=SC2086 # lists of words
-    musl-gcc -std=c99 -static $strict -I include examples/session.c $linked -o "$folder/musl"
-    echo 'examples/session.c with musl, static:'
-    "$folder/musl"
-else
-    echo 'not tried with musl: there is no musl-gcc'
-fi
-
 mkdir "$folder/nonnull"
-sed '/^static inline/,$!s/);$/) __attribute__((nonnull));/' include/p2p_session.h > "$folder/nonnull/p2p_session.h"
+for header in include/*.h; do
+    sed '/^uint64_t /,/;$/s/;$/ __attribute__((nonnull));/' "$header" > "$folder/nonnull/${header##*/}"
+done
 while read -r pair key signature firsts; do
     first=${firsts:+-D FIRST_BYTE=${firsts##* }}
     of_pair examples/session.c "$pair" > "$folder/session.c"
     of_pair tools/host_stack.c "$pair" > "$folder/stack.c"
     # shellcheck disable=SC2086 # lists of words
     {
-        cc -std=c11 $strict $first -I include "$folder/session.c" $linked -o "$folder/session"
+        cc -std=c11 $strict $first -I include "$folder/session.c" $linked -Wl,--gc-sections -o "$folder/session"
         cc -std=c99 $strict $first -fsanitize=nonnull-attribute -fsanitize-undefined-trap-on-error -I "$folder/nonnull" \
             "$folder/session.c" $linked -o "$folder/nonnull/session"
         cc -std=c11 $strict $first -I include -D main=session_main -c "$folder/session.c" -o "$folder/session.o"
@@ -100,16 +85,24 @@ done < "$folder/pairs"
 while read -r pair _ _ first _; do
     echo "PAIR($pair, $(echo "$pair" | tr '[:lower:]' '[:upper:]'), ${first:-0})"
 done < "$folder/pairs" > "$folder/pairs.h"
+sed 's/\([^ ]*\).*/#include "\1.h"/' "$folder/pairs" > "$folder/headers.h"
 # shellcheck disable=SC2086 # lists of words
 cc -std=c11 $strict -I include -I "$folder" tools/host_pairs.c $linked -o "$folder/all"
 under_valgrind "$folder/all"
 
+# A language that links at run time, and the bytes of each answer.
+# shellcheck disable=SC2086 # a list of words
+tools/release/shared.sh "$folder" "$archives/libp2p_session.a"
+nm -D --defined-only "$folder/libp2p_session.so" > "$folder/symbols"
+! grep -v ' T p2p_session_' "$folder/symbols" || fail 'the shared library exports other names'
+python3 examples/session.py "$folder/libp2p_session.so"
+tools/exports/forms.py "$folder/libp2p_session.so"
+
 # A session of one pair doesn't go where one of another is wanted.
 compiles() {
-    printf '#include "p2p_session.h"\nuint64_t mixed(struct %s *session) { return %s_%s; }\n' "$1" "$2" "$3" > "$folder/mixed.c"
-    cc -std=c11 -Werror=incompatible-pointer-types -I include -c "$folder/mixed.c" -o "$folder/mixed.o" \
-        2> "$folder/c11.told" && echo c11
-    g++ -std=c++17 -I include -x c++ -c "$folder/mixed.c" -o "$folder/mixed.o" 2> "$folder/c++17.told" && echo c++17
+    printf '#include "headers.h"\nuint64_t mixed(struct %s *session) { return %s_%s; }\n' "$1" "$2" "$3" > "$folder/mixed.c"
+    cc -std=c11 -fsyntax-only -Werror=incompatible-pointer-types -I include "$folder/mixed.c" 2> "$folder/c11.told" && echo c11
+    g++ -std=c++17 -fsyntax-only -I include -x c++ "$folder/mixed.c" 2> "$folder/c++17.told" && echo c++17
 }
 while read -r given _; do
     while read -r wanted _; do
@@ -142,7 +135,7 @@ refuses() {
     sed "$2" $table > "$folder/session.table"
     ! cmp -s $table "$folder/session.table" || fail "the table is the same: $1"
     python3 tools/exports/exports.py "$folder/session.table" "$folder/other"
-    hash=$(grep -o 'p2p_session_interface_[0-9a-f]*' "$folder/other/include/p2p_session.h" | sort -u)
+    hash=$(grep -o 'p2p_session_interface_[0-9a-f]*' "$folder/other/include/p2p_session.h")
     # shellcheck disable=SC2086 # lists of words
     ! cc -std=c11 -I "$folder/other/include" examples/session.c $linked -o "$folder/host" 2> "$folder/lines" ||
         fail "a host links that was compiled for $1"
@@ -155,5 +148,6 @@ last=$(grep -n '^pair ' $table | tail -n 1 | cut -d : -f 1)
 refuses 'one pair of sizes more' "${last}a pair 40 64: Another."
 refuses 'one pair of sizes less' "${last}d"
 refuses 'other first bytes' 's/^\(pair .*\) first [0-9]*:/\1:/'
-refuses 'a call with one more argument' 's/^next_cooled(/next_cooled(seconds: u64, /'
-refuses 'one refusal less' '/^refusal BAD_VERDICTS:/d'
+refuses 'a call with one more argument' 's/^\([0-9]*\) next_cooled(&self/&, seconds: u64/'
+refuses 'one refusal less' '/^refusal BAD_CALL:/d'
+refuses 'other forms of answers' 's/^forms: .*/forms: 0/'

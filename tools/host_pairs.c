@@ -1,8 +1,8 @@
 // Has a node of each pair of sizes at once, whose calls are made by turns. Each tracks one peer more than the one before.
 //
-// tools/host_c.sh writes pairs.h from tools/exports/session.table: for each pair PAIR(what its calls begin with, what its
-// constants begin with, the first byte of its keys).
-#include "p2p_session.h"
+// tools/host_c.sh writes headers.h, which includes the header of each pair, and pairs.h from tools/exports/session.table: for
+// each pair PAIR(what its calls begin with, what its constants begin with, the first byte of its keys).
+#include "headers.h"
 
 #include <inttypes.h>
 #include <stdio.h>
@@ -70,7 +70,19 @@ static void spell_info(uint8_t *info, size_t length, size_t key_size, uint8_t fi
 #include "pairs.h"
 #undef PAIR
 
+// Each refusal has a text, and no other number.
+static void look_at_texts(void) {
+    uint64_t answer = UINT64_MAX;
+    while (P2P_SESSION_IS_REFUSAL(answer))
+        if (p2p_session_refusal_text(answer--) == NULL)
+            exit(1);
+    expect("refusals", answer, P2P_SESSION_BAD_CALL - 1);
+    if (p2p_session_refusal_text(answer) != NULL)
+        exit(1);
+}
+
 int main(void) {
+    look_at_texts();
     uint8_t count = 0;
 #define PAIR(call, NAME, FIRST) struct call *call##_at = call##_node();
 #include "pairs.h"

@@ -83,8 +83,7 @@ cat > "$copy/tools/archive.sh" << END
 echo >> $copy/proofs
 out=$copy/crates/p2p_session_c/out
 mkdir -p \$out
-cp $copy/prover/libp2p_session.a \$out/libp2p_session_c.a
-cp $copy/prover/libp2p_session.a \$out/liblibc_c.a
+cp $copy/prover/libp2p_session.a \$out/
 END
 chmod +x "$copy/tools/archive.sh"
 
@@ -115,7 +114,7 @@ links package
 warns || fail 'it does not warn of a line of crates.txt that has changed'
 agree
 
-refuses 'has neither libp2p_session.a nor' "P2P_SESSION_LIB=$copy/nowhere"
+refuses 'has no libp2p_session.a' "P2P_SESSION_LIB=$copy/nowhere"
 refuses 'pkg-config finds no p2p_session' "$asked" PKG_CONFIG_PATH=/nowhere
 printf '#!/bin/sh\nexit 1\n' > "$copy/tools/archive.sh"
 touch "$copy/crates.txt"

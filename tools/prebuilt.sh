@@ -1,9 +1,9 @@
 #!/bin/sh
-# Makes the archive that the Rust crates carry, rust/p2p-directory-sys/prebuilt/x86_64-unknown-linux-gnu, from what
-# tools/archive.sh left: libp2p_session.a, whose members are the library and the toolchain's heap, and PROVED beside it,
-# with its hash. With --check it says whether the one that is there is the same. It proves nothing.
+# Puts the archive that tools/archive.sh left where the Rust crates carry it,
+# rust/p2p-directory-sys/prebuilt/x86_64-unknown-linux-gnu, with PROVED beside it, to which its hash is added. With --check
+# it says whether the one that is there is the same. It proves nothing.
 #
-# usage: tools/prebuilt.sh [--check] [FOLDER], with libp2p_session_c.a, liblibc_c.a and PROVED
+# usage: tools/prebuilt.sh [--check] [FOLDER], with libp2p_session.a and PROVED
 set -eu
 cd "$(dirname "$0")/.."
 checks=
@@ -25,11 +25,7 @@ if [ -z "$checks" ] && grep ': no verdict$' "$from/PROVED" >&2; then
         "there is no crates/*/out; tools/proved.sh reads them from logs" >&2
     exit 1
 fi
-(cd "$made" && ar x "$from/libp2p_session_c.a" p2p_session_c.o && ar x "$from/liblibc_c.a" heap.pic.o)
-# The loop of `status` takes up to a third longer where it begins at a cache line. The first pair's doesn't if the function
-# does, and then that of keys of 33 bytes, which follows it, doesn't either.
-tools/aligned.py "$made/p2p_session_c.o" .text.p2p_session_status 64
-(cd "$made" && ar rcsD libp2p_session.a p2p_session_c.o heap.pic.o)
+cp "$from/libp2p_session.a" "$made/"
 { cat "$from/PROVED" && (cd "$made" && sha256sum libp2p_session.a); } > "$made/PROVED"
 
 if [ -z "$checks" ]; then

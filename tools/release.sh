@@ -3,15 +3,20 @@
 # same bytes each time. It proves nothing: it takes the archive that the Rust crates carry, and is refused where that
 # isn't of the sources as they stand, or where something isn't committed.
 #
-# With --prebuilt it renews that archive from what tools/archive.sh left, or from a FOLDER, by tools/prebuilt.sh.
+# With --prebuilt it renews that archive from what tools/archive.sh left, or from a FOLDER, by tools/prebuilt.sh. With --shared
+# it makes libp2p_session.so of that archive in dist/, or in another FOLDER: a release has tools/release/shared.sh for it.
 #
-# usage: tools/release.sh [--prebuilt [FOLDER]]
+# usage: tools/release.sh [--prebuilt [FOLDER] | --shared [FOLDER]]
 set -eu
 cd "$(dirname "$0")/.."
+prebuilt=rust/p2p-directory-sys/prebuilt/x86_64-unknown-linux-gnu
 case ${1:-} in
 --prebuilt)
     shift
     exec tools/prebuilt.sh "$@"
+    ;;
+--shared)
+    exec tools/release/shared.sh "${2:-dist}" "$prebuilt/libp2p_session.a"
     ;;
 ?*)
     sed -n 's/^# usage: /usage: /p' "$0" >&2
@@ -19,7 +24,6 @@ case ${1:-} in
     ;;
 esac
 
-prebuilt=rust/p2p-directory-sys/prebuilt/x86_64-unknown-linux-gnu
 refuse() {
     echo "$1" >&2
     exit 1
@@ -47,7 +51,7 @@ fill p2p_session.pc.in lib/pkgconfig/p2p_session.pc
 fill p2p_session-config.cmake lib/cmake/p2p_session/p2p_session-config.cmake
 fill p2p_session-config-version.cmake.in lib/cmake/p2p_session/p2p_session-config-version.cmake
 fill README.md README.md
-cp tools/release/install.sh "$release/"
+cp tools/release/install.sh tools/release/shared.sh "$release/"
 tools/release/links.py "$release"
 cp "$prebuilt/libp2p_session.a" "$release/lib/"
 cp "$prebuilt/LICENSE-bytes" "$prebuilt/LICENSE-thiserror" "$release/"

@@ -4,7 +4,7 @@
 # C compiler and cargo build and pass all.
 set -eu
 cd "$(dirname "$0")/.."
-tools/installed.sh cargo cc:gcc g++ ar:binutils nm:binutils cmake pkg-config:pkgconf
+tools/installed.sh cargo cc:gcc g++ ar:binutils nm:binutils cmake pkg-config:pkgconf python3
 folder=$(mktemp -d)
 trap 'rm -rf "$folder"' EXIT
 tools/clone.sh "$folder/clone"
@@ -41,20 +41,19 @@ refusals() {
     git -C "$folder/clone" reset --quiet --hard HEAD^
 }
 
-# Takes the carried archive apart, renews it from that, and compares it with another.
+# Renews the carried archive from a copy, and compares it with another.
 renewed() {
     (
-        mkdir "$folder/apart"
+        mkdir "$folder/built"
         cd "$folder/clone"
-        head -n -1 "$prebuilt/PROVED" > "$folder/apart/PROVED"
-        cp "$prebuilt/libp2p_session.a" "$folder/whole.a"
-        (cd "$folder/apart" && ar x "$folder/whole.a" && ar rc libp2p_session_c.a p2p_session_c.o && ar rc liblibc_c.a heap.pic.o)
+        head -n -1 "$prebuilt/PROVED" > "$folder/built/PROVED"
+        cp "$prebuilt/libp2p_session.a" "$folder/built/"
         rm -r "$prebuilt/libp2p_session.a" "$prebuilt/PROVED"
-        tools/release.sh --prebuilt "$folder/apart"
+        tools/release.sh --prebuilt "$folder/built"
         git diff --exit-code --stat
-        tools/prebuilt.sh --check "$folder/apart"
-        (cd "$folder/apart" && printf x >> heap.pic.o && ar rc liblibc_c.a heap.pic.o)
-        tools/prebuilt.sh --check "$folder/apart" > "$folder/told" 2>&1 && exit 1
+        tools/prebuilt.sh --check "$folder/built"
+        printf x >> "$folder/built/libp2p_session.a"
+        tools/prebuilt.sh --check "$folder/built" > "$folder/told" 2>&1 && exit 1
         grep -q 'run tools/release.sh --prebuilt and commit' "$folder/told"
         git diff --exit-code --stat
     )
@@ -111,6 +110,15 @@ c_hosts() {
     runs c++17
     runs own_heap
     grep "requests met by the host's own heap" "$folder/own_heap.err"
+}
+
+# By a shared library, which is made of what the release holds.
+python_host() {
+    (
+        cd "$folder/release"
+        ./shared.sh "$folder/shared"
+        python3 examples/session.py "$folder/shared/libp2p_session.so"
+    )
 }
 
 # Whether a program has calls of the first pair of sizes, and none of another.
@@ -192,6 +200,7 @@ verified() {
     (cd "$folder/clone" && tools/verify_release.sh --without-proof "$folder"/first/*.tar.gz) | tail -n 1
     sees lib/libp2p_session.a
     sees include/p2p_session.h
+    sees include/p2p_session_common.h
     sees rust/p2p-directory-sys/src/exports.rs
     sees rust/p2p-directory-sys/build/main.rs
     sees rust/p2p-directory-sys/prebuilt/x86_64-unknown-linux-gnu/libp2p_session.a
@@ -216,6 +225,7 @@ renewed
 twice
 verified
 c_hosts "$PWD"
+python_host
 installed
 runs_two_nodes release
 passes_tests release

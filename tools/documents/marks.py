@@ -33,19 +33,9 @@ def played(root, place):
 
 
 def table(root, wanted):
-    """Returns how many lines of the table of exports read so from their beginning."""
+    """Returns how many lines of the table of calls read so from their beginning."""
     text = (root / "tools/exports/session.table").read_text(encoding="utf-8")
     return len(re.findall(rf"^{wanted}", text, re.M))
-
-
-def pair_exports(root):
-    """Returns how many calls each pair of sizes has: those of the table on a session, and size, new and free."""
-    return 3 + table(root, r"\w+\(.*\) -> \w+ = [\w.]+$")
-
-
-def exports(root):
-    """Returns how many calls the archive exports: those of each pair, and those of functions that need no session."""
-    return table(root, "pair ") * pair_exports(root) + table(root, r"fn \w+\(.*\) -> \w+ = [\w.]+$")
 
 
 def worked(root):
@@ -66,8 +56,7 @@ def reached_number(root, function, place):
 
 
 COUNTS = {
-    "exports": exports,
-    "pair-exports": pair_exports,
+    "calls": lambda root: table(root, r"\d+ \w+\("),
     "worked-examples": worked,
     "replies": lambda root: played(root, 1),
     "all-replies": lambda root: played(root, 0),

@@ -8,7 +8,7 @@ use Rattle.p2p_session.specs.declared.session.Session.{Session}
 use Rattle.p2p_session.specs.declared.setup.Numbers.{Numbers}
 use Rattle.std.specs.Prelude.{if◌then◌else◌, ◌==◌}
 use Rattle.std.proofs.lemmas.Slice.Eq.{text_from_reads}
-use Rattle.p2p_session.specs.Given.{IsSetup, IsSetupRefusal, numbers_at, moment_at, and_then, are_settings}
+use Rattle.p2p_session.specs.Given.{IsSetup, IsSetupRefusal, numbers_of, numbers_at, moment_at, and_then, are_settings}
 use Rattle.p2p_session.specs.Sessions.{InitsBy, IsInitRefusal}
 use Rattle.p2p_session.specs.Schemes.{Scheme}
 use Rattle.p2p_session.specs.Requests.{ServesRequest, request_of, bool_at, with_bool, when, Request}
@@ -25,19 +25,9 @@ fourteen s h = text_from_reads s
 
 -- the numbers of a setup, with its bools and other nanoseconds
 abbrev pub numbers_in : List ℕ → Bool → Bool → ℕ → ℕ → ℕ → Numbers
-numbers_in s private_ips dns cooldown block bound = record {
-  allow_private_ips = private_ips;
-  allow_dns = dns;
-  max_sets = get_or s 2 0;
-  dial_fail_limit = get_or s 3 0;
-  cooldown = (get_or s 4 0, cooldown);
-  block = (get_or s 6 0, block);
-  max_bit_vec = get_or s 8 0;
-  max_peers = get_or s 9 0;
-  max_data_length = get_or s 10 0;
-  peer_gossip_max_count = get_or s 11 0;
-  bound = (get_or s 12 0, bound);
-}
+numbers_in s private_ips dns cooldown block bound = numbers_of private_ips dns (get_or s 2 0) (get_or s 3 0)
+    (get_or s 4 0) cooldown (get_or s 6 0) block (get_or s 8 0) (get_or s 9 0) (get_or s 10 0) (get_or s 11 0)
+    (get_or s 12 0) bound
 
 -- these numbers with other nanoseconds
 abbrev pub with_nanos : Numbers → ℕ → ℕ → ℕ → Numbers

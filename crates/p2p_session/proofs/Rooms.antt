@@ -31,6 +31,7 @@ high refusal.BadBits = lit< tt
 high refusal.BadMoment = lit< tt
 high refusal.BadSetting = lit< tt
 high refusal.BadVerdicts = lit< tt
+high refusal.BadCall = lit< tt
 
 pub refused_whole : (out : List ℕ) (why : Refusal) (n : ℕ) → n ≡ number_of why → Fits out n
 refused_whole out why n e = inr (subst (λ k. 2 ^ 63 < k) (sym e) (high why))

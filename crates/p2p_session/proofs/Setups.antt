@@ -25,6 +25,7 @@ number_not_one refusal.BadBits e = omega (arith, e)
 number_not_one refusal.BadMoment e = omega (arith, e)
 number_not_one refusal.BadSetting e = omega (arith, e)
 number_not_one refusal.BadVerdicts e = omega (arith, e)
+number_not_one refusal.BadCall e = omega (arith, e)
 
 module _ {C S : Type 0} (k : Scheme C S) where
   -- the numbers of a setup that was read are fine

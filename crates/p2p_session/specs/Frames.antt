@@ -1,6 +1,6 @@
 -- What a session does with frames, and what it tells of reservations.
 use Rattle.std.specs.Prelude.{◌≡◌, ◌⊎◌, ℕ, ◌+◌, ◌-◌, ◌<◌, ◌≤◌, Bool, true, not, ◌==◌, List, [], ◌∷◌}
-use Rattle.std.specs.Prelude.{◌++◌, length, take, drop, map, flat_map, Option, Some, None, Result, Ok, Err}
+use Rattle.std.specs.Prelude.{max, ◌++◌, length, take, drop, map, flat_map, Option, Some, None, Result, Ok, Err}
 use Rattle.p2p_discovery.specs.declared.codec.error.CodecError.{CodecError}
 use Rattle.p2p_discovery.specs.declared.codec.error.CodecError.TheVariants as fault
 use Rattle.p2p_discovery.specs.declared.codec.error.What.TheVariants as what
@@ -112,21 +112,26 @@ module _ {C S : Type 0} (k : Scheme C S) where
   HearsAt verdicts frame (Ok t) v v2 r = Hears verdicts frame t v v2 r
   HearsAt verdicts frame (Err why) v v2 r = ⊥
 
-  -- why a frame isn't taken: what is wrong with the moment; else that the room is shorter than the
-  -- longest answer; else that memory was refused, or that verdicts and infos differ in number
+  -- the longest answer of a frame that changes something: a greeting's, a byte and its key, or that
+  -- of infos, a byte and how many of them were applied
+  abbrev pub applied_size : ℕ
+  applied_size = 1 + max k.key.SIZE 8
+
+  -- why a frame isn't taken: what is wrong with the moment; else that the room is shorter than that
+  -- answer; else that memory was refused, or that verdicts and infos differ in number
   abbrev pub MayRefuse : NodeView C S → List Bool → List ℕ → Result ℕ Refusal → ℕ → Refusal → Type 0
   MayRefuse v verdicts frame (Err wrong) room why = why ≡ wrong
-  MayRefuse v verdicts frame (Ok t) room refusal.NoRoom = room < 1 + k.key.SIZE
-  MayRefuse v verdicts frame (Ok t) room refusal.Memory = 1 + k.key.SIZE ≤ room
-  MayRefuse v verdicts frame (Ok t) room refusal.BadVerdicts = (1 + k.key.SIZE ≤ room)
+  MayRefuse v verdicts frame (Ok t) room refusal.NoRoom = room < applied_size
+  MayRefuse v verdicts frame (Ok t) room refusal.Memory = applied_size ≤ room
+  MayRefuse v verdicts frame (Ok t) room refusal.BadVerdicts = (applied_size ≤ room)
       × (are_miscounted (wire k) (standing_of k.key.cmp (wire k) v) frame verdicts ≡ true)
   MayRefuse v verdicts frame (Ok t) room _ = ⊥
 
-  -- what holds where a frame was taken: the room has the longest answer, and there are as many
+  -- what holds where a frame was taken: the room has that answer, and there are as many
   -- verdicts as infos, unless memory was refused
   pub record IsTaken (v : NodeView C S) (verdicts : List Bool) (frame : List ℕ) (room : ℕ)
       (r : Received) : Type 0 where
-    pub fits : 1 + k.key.SIZE ≤ room
+    pub fits : applied_size ≤ room
     pub counted : are_miscounted (wire k) (standing_of k.key.cmp (wire k) v) frame verdicts ≡ true →
         IsWantOfMemory r
 

@@ -77,6 +77,23 @@ abbrev pub track_of : {C S : Type 0} → ℕ → Result (TrackedPeers C S) Refus
 track_of index (Ok peers) = Ok (Track index peers.primary peers.secondary)
 track_of index (Err why) = Err why
 
+-- the numbers of a setup, in the order in which `init` takes them
+abbrev pub numbers_of : Bool → Bool → ℕ → ℕ → ℕ → ℕ → ℕ → ℕ → ℕ → ℕ → ℕ → ℕ → ℕ → ℕ → Numbers
+numbers_of private_ips dns sets fails cooldown_seconds cooldown_nanos block_seconds block_nanos
+    bits peers data_length count bound_seconds bound_nanos = record {
+      allow_private_ips = private_ips;
+      allow_dns = dns;
+      max_sets = sets;
+      dial_fail_limit = fails;
+      cooldown = (cooldown_seconds, cooldown_nanos);
+      block = (block_seconds, block_nanos);
+      max_bit_vec = bits;
+      max_peers = peers;
+      max_data_length = data_length;
+      peer_gossip_max_count = count;
+      bound = (bound_seconds, bound_nanos);
+    }
+
 -- a node retains a set, and not as many as fit no list, and a frame encodes as many bits
 abbrev pub are_settings : Numbers → Bool
 are_settings n =

@@ -5,7 +5,7 @@ use Rattle.p2p_session.specs.declared.refusal.Refusal.TheVariants.{Memory, NoNod
 use Rattle.p2p_session.specs.declared.refusal.Refusal.TheVariants.{NotReserved, NotHeld, BadKey}
 use Rattle.p2p_session.specs.declared.refusal.Refusal.TheVariants.{BadKeys, BadInfo, BadBits}
 use Rattle.p2p_session.specs.declared.refusal.Refusal.TheVariants.{BadMoment, BadSetting}
-use Rattle.p2p_session.specs.declared.refusal.Refusal.TheVariants.{BadVerdicts}
+use Rattle.p2p_session.specs.declared.refusal.Refusal.TheVariants.{BadVerdicts, BadCall}
 
 abbrev pub number_of : Refusal → ℕ
 number_of Memory = 2 ^ 64 - 1
@@ -21,7 +21,4 @@ number_of BadBits = 2 ^ 64 - 10
 number_of BadMoment = 2 ^ 64 - 11
 number_of BadSetting = 2 ^ 64 - 12
 number_of BadVerdicts = 2 ^ 64 - 13
-
--- .. where number and arguments of a call are no request: it comes before all others
-abbrev pub bad_call : ℕ
-bad_call = 2 ^ 64 - 14
+number_of BadCall = 2 ^ 64 - 14

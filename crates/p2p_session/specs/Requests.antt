@@ -11,8 +11,9 @@ use Rattle.p2p_session.specs.declared.refusal.Refusal.{Refusal}
 use Rattle.p2p_session.specs.declared.session.Session.{Session}
 use Rattle.p2p_session.specs.declared.setup.Numbers.{Numbers}
 use Rattle.p2p_session.specs.Schemes.{Scheme}
-use Rattle.p2p_session.specs.Refusals.{bad_call}
-use Rattle.p2p_session.specs.Given.{Asked}
+use Rattle.p2p_session.specs.declared.refusal.Refusal.TheVariants as refusal
+use Rattle.p2p_session.specs.Answers.{Refuses}
+use Rattle.p2p_session.specs.Given.{Asked, numbers_of}
 use Rattle.p2p_session.specs.Sessions.{at_moment, of_peer, of_peer_at, with_draw, Answers, Writes}
 use Rattle.p2p_session.specs.Sessions.{Tracks, UpdatesPeers, TellsInfos, Receives, InitsBy}
 use Rattle.p2p_session.specs.Sessions.{TellsRoom, TellsReservation, TellsRetained, TellsNextCooled}
@@ -171,19 +172,9 @@ module _ {C S : Type 0} (k : Scheme C S) where
   request_of number (private_ips ∷ dns ∷ sets ∷ fails ∷ cooldown_seconds ∷ cooldown_nanos
       ∷ block_seconds ∷ block_nanos ∷ bits ∷ peers ∷ data_length ∷ count
       ∷ bound_seconds ∷ bound_nanos ∷ []) namespace bootstrappers myself =
-      of_setup number private_ips dns (λ private_ips dns. record {
-        allow_private_ips = private_ips;
-        allow_dns = dns;
-        max_sets = sets;
-        dial_fail_limit = fails;
-        cooldown = (cooldown_seconds, cooldown_nanos);
-        block = (block_seconds, block_nanos);
-        max_bit_vec = bits;
-        max_peers = peers;
-        max_data_length = data_length;
-        peer_gossip_max_count = count;
-        bound = (bound_seconds, bound_nanos);
-      }) namespace bootstrappers myself
+      of_setup number private_ips dns (λ private_ips dns. numbers_of private_ips dns sets fails
+      cooldown_seconds cooldown_nanos block_seconds block_nanos bits peers data_length count
+      bound_seconds bound_nanos) namespace bootstrappers myself
   request_of number _ first second third = None
 
   -- ---- what is done
@@ -193,7 +184,8 @@ module _ {C S : Type 0} (k : Scheme C S) where
   -- answer is a number, nothing is written.
   abbrev pub ServesRequest : Option (Request C S) → List ℕ → List ℕ → Session C S → Session C S →
       ℕ → Type 0
-  ServesRequest None out out2 before after n = (n ≡ bad_call) × (after ≡ before) × (out2 ≡ out)
+  ServesRequest None out out2 before after n =
+      (after ≡ before) × Refuses refusal.BadCall out out2 n
   ServesRequest (Some (Numbered given)) out out2 before after n =
       (out2 ≡ out) × Answers k given before after n
   ServesRequest (Some (Written given)) out out2 before after n =
@@ -218,6 +210,12 @@ module _ {C S : Type 0} (k : Scheme C S) where
       Checks k frame seconds nanos out out2 before after n
   ServesRequest (Some (Init numbers namespace bootstrappers myself)) out out2 before after n =
       (out2 ≡ out) × InitsBy k numbers namespace bootstrappers myself before after n
+
+  -- .. by number and arguments
+  abbrev pub ServesCall : ℕ → List ℕ → List ℕ → List ℕ → List ℕ → List ℕ → List ℕ →
+      Session C S → Session C S → ℕ → Type 0
+  ServesCall number numbers first second third out out2 before after n =
+      ServesRequest (request_of number numbers first second third) out out2 before after n
 
   -- ---- the law of spellings
 

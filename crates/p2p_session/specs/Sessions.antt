@@ -134,70 +134,6 @@ module _ {C S : Type 0} (k : Scheme C S) where
       and_then (key_at k peer) (λ p. and_then (moment_at seconds nanos) (λ now.
       at_moment draw_seconds draw_nanos (f p now)))
 
-  abbrev pub Dials : List ℕ → ℕ → ℕ → ℕ → ℕ → Session C S → Session C S → ℕ → Type 0
-  Dials peer seconds nanos draw_seconds draw_nanos =
-      Answers (with_draw peer seconds nanos draw_seconds draw_nanos (λ p now draw. Dial p now draw))
-
-  abbrev pub Listens : List ℕ → ℕ → ℕ → ℕ → ℕ → Session C S → Session C S → ℕ → Type 0
-  Listens peer seconds nanos draw_seconds draw_nanos =
-      Answers (with_draw peer seconds nanos draw_seconds draw_nanos (λ p now draw. Listen p now draw))
-
-  abbrev pub TellsConnect : List ℕ → Bool → Session C S → Session C S → ℕ → Type 0
-  TellsConnect peer dialer = Answers (of_peer peer (λ p. Connect p dialer))
-
-  abbrev pub TellsRelease : List ℕ → Session C S → Session C S → ℕ → Type 0
-  TellsRelease peer = Answers (of_peer peer (λ p. Release p))
-
-  abbrev pub Blocks : List ℕ → ℕ → ℕ → Session C S → Session C S → ℕ → Type 0
-  Blocks peer seconds nanos = Answers (of_peer_at peer seconds nanos (λ p now. Block p now))
-
-  abbrev pub Unblocks : ℕ → ℕ → Session C S → Session C S → ℕ → Type 0
-  Unblocks seconds nanos = Answers (at_moment seconds nanos (λ now. UnblockExpired now))
-
-  abbrev pub Forgets : ℕ → ℕ → Session C S → Session C S → ℕ → Type 0
-  Forgets seconds nanos = Answers (at_moment seconds nanos (λ now. ForgetCooled now))
-
-  abbrev pub TellsUnblock : List ℕ → List ℕ → Session C S → Session C S → ℕ → Type 0
-  TellsUnblock = Writes (Ok (Ask NextUnblock))
-
-  abbrev pub TellsBlocked : ℕ → ℕ → List ℕ → List ℕ → Session C S → Session C S → ℕ → Type 0
-  TellsBlocked seconds nanos = Writes (at_moment seconds nanos (λ now. Ask (BlockedAt now)))
-
-  abbrev pub TellsStatus : List ℕ → Session C S → Session C S → ℕ → Type 0
-  TellsStatus peer = Answers (of_peer peer (λ p. Ask (StatusOf p)))
-
-  abbrev pub TellsPeerSet : ℕ → List ℕ → List ℕ → Session C S → Session C S → ℕ → Type 0
-  TellsPeerSet index = Writes (Ok (Ask (PeerSet index)))
-
-  abbrev pub TellsLatestIndex : List ℕ → List ℕ → Session C S → Session C S → ℕ → Type 0
-  TellsLatestIndex = Writes (Ok (Ask LatestIndex))
-
-  abbrev pub TellsUpdate : List ℕ → List ℕ → Session C S → Session C S → ℕ → Type 0
-  TellsUpdate = Writes (Ok (Ask LatestUpdate))
-
-  abbrev pub TellsAll : List ℕ → List ℕ → Session C S → Session C S → ℕ → Type 0
-  TellsAll = Writes (Ok (Ask AllPeers))
-
-  abbrev pub TellsInfo : List ℕ → List ℕ → List ℕ → Session C S → Session C S → ℕ → Type 0
-  TellsInfo peer = Writes (of_peer peer (λ p. Ask (InfoOf p)))
-
-  abbrev pub TellsBits : ℕ → List ℕ → List ℕ → Session C S → Session C S → ℕ → Type 0
-  TellsBits place = Writes (Ok (Ask (BitsAt place)))
-
-  abbrev pub TellsEligible : List ℕ → ℕ → ℕ → Session C S → Session C S → ℕ → Type 0
-  TellsEligible peer seconds nanos =
-      Answers (of_peer_at peer seconds nanos (λ p now. Ask (IsEligible p now)))
-
-  abbrev pub TellsAcceptable : List ℕ → ℕ → ℕ → Session C S → Session C S → ℕ → Type 0
-  TellsAcceptable peer seconds nanos =
-      Answers (of_peer_at peer seconds nanos (λ p now. Ask (IsAcceptable p now)))
-
-  abbrev pub TellsDialable : ℕ → ℕ → List ℕ → List ℕ → Session C S → Session C S → ℕ → Type 0
-  TellsDialable seconds nanos = Writes (at_moment seconds nanos (λ now. Ask (DialableAt now)))
-
-  abbrev pub TellsTracked : Session C S → Session C S → ℕ → Type 0
-  TellsTracked = Answers (Ok (Ask NumberTracked))
-
   -- how many sets are retained; nothing changes
   abbrev pub TellsRetained : Session C S → Session C S → ℕ → Type 0
   TellsRetained before after n = (after ≡ before) × RetainedOf before.node
@@ -246,7 +182,8 @@ module _ {C S : Type 0} (k : Scheme C S) where
   abbrev pub Tracks : ℕ → List ℕ → List ℕ → List ℕ → List ℕ → Session C S → Session C S → ℕ → Type 0
   Tracks index primary secondary out out2 before after n =
       ((n ≡ room_refusal before.node) × (after ≡ before) × (out2 ≡ out) × LacksRoom before.node)
-      ⊎ (ServesRead (IsTrackRead k index primary secondary) out out2 before after n × Fits out n)
+      ⊎ (ServesRead (IsTrackRead k index primary secondary) out out2 before after n
+      × HasRoom before.node out × Fits out n)
     where
       LacksRoom : Option (NodeView C S) → Type 0
       LacksRoom None = Unit {0}
@@ -292,23 +229,6 @@ module _ {C S : Type 0} (k : Scheme C S) where
         × IsSetup k numbers namespace bootstrappers myself given × IsMade after.node given)
     pub refused : ¬ (n ≡ 1) → (after.node ≡ before.node) × ((why : Refusal)
         × IsInitRefusal numbers bootstrappers myself before.node why × (n ≡ number_of why))
-
-  abbrev pub Inits : Bool → Bool → ℕ → ℕ → ℕ → ℕ → ℕ → ℕ → ℕ → ℕ → ℕ → ℕ → ℕ → ℕ →
-      List ℕ → List ℕ → List ℕ → Session C S → Session C S → ℕ → Type 0
-  Inits private_ips dns sets fails cooldown_seconds cooldown_nanos block_seconds block_nanos
-      bits peers data_length count bound_seconds bound_nanos = InitsBy (record {
-        allow_private_ips = private_ips;
-        allow_dns = dns;
-        max_sets = sets;
-        dial_fail_limit = fails;
-        cooldown = (cooldown_seconds, cooldown_nanos);
-        block = (block_seconds, block_nanos);
-        max_bit_vec = bits;
-        max_peers = peers;
-        max_data_length = data_length;
-        peer_gossip_max_count = count;
-        bound = (bound_seconds, bound_nanos);
-      })
 
   -- ---- reservations and frames
 

@@ -29,6 +29,7 @@ ghost use Rattle.p2p_session.specs.Frames.{
   Hears,
   HearsAt,
   IsTaken,
+  applied_size,
 };
 ghost use Rattle.p2p_session.specs.Frames.{to_ask, ChecksAt};
 ghost use Rattle.p2p_discovery.specs.Judgement.{judge_of};
@@ -105,7 +106,7 @@ fn hear<C: PublicKey>(
 {
     are_bytes(frame);
     let now = moment(time.0, time.1)?;
-    if room < 1 + C::SIZE {
+    if room < 1 + C::SIZE.max(8) {
         return Err(Refusal::NoRoom);
     }
     let verdicts = verdicts_of(alloc, verdicts)?;
@@ -124,9 +125,10 @@ fn process<C: PublicKey>(
     ensures heard { IfOk result (λ a. Hears (scheme C.PublicKey C.Signature.FixedBytes) verdicts.now
         frame.now (as_nanos now)
         node.old node.new (received_of (wire (scheme C.PublicKey C.Signature.FixedBytes)) a)) }
-    ensures refused { IfErr result (λ why. (t room : ℕ) → 1 + C.SIZE ≤ room
-        → MayRefuse (scheme C.PublicKey C.Signature.FixedBytes) node.old verdicts.now frame.now (Ok
-        t) room why) }
+    ensures refused { IfErr result (λ why. (t room : ℕ) →
+        applied_size (scheme C.PublicKey C.Signature.FixedBytes) ≤ room →
+        MayRefuse (scheme C.PublicKey C.Signature.FixedBytes) node.old verdicts.now frame.now (Ok t)
+        room why) }
     ensures same { OnErr result (node.new ≡ node.old) }
     ensures few { IfOk result AreFew }
     ensures counted { IfOk result (λ a. are_miscounted (wire (scheme C.PublicKey

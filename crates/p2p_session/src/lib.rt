@@ -28,5 +28,5 @@ mod setup;
 
 pub use crate::address::{is_global, is_valid};
 pub use crate::key::{KEY_SIZE, Key, SIGNATURE_SIZE, Signature};
-pub use crate::refusal::{BAD_CALL, Refusal};
+pub use crate::refusal::Refusal;
 pub use crate::session::Session;

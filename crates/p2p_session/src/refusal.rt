@@ -36,11 +36,9 @@ pub enum Refusal {
     BadSetting,
     /// There are not as many verification results as infos in the frame.
     BadVerdicts,
+    /// Number and arguments are no call. This comes before all others, [`Refusal::NoNode`] too.
+    BadCall,
 }
-
-/// What [`Session::call`](crate::Session::call) returns where number and arguments are no request:
-/// the number behind those of all refusals. It comes before each of them, [`Refusal::NoNode`] too.
-pub const BAD_CALL: u64 = u64::MAX - 13;
 
 impl Refusal {
     /// The number that a call returns for this refusal. These numbers are at the top of `u64`,
@@ -62,6 +60,7 @@ impl Refusal {
             Refusal::BadMoment => u64::MAX - 10,
             Refusal::BadSetting => u64::MAX - 11,
             Refusal::BadVerdicts => u64::MAX - 12,
+            Refusal::BadCall => u64::MAX - 13,
         }
     }
 }

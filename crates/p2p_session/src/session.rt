@@ -5,8 +5,8 @@ ghost use Rattle.std.specs.Int.NonZero.{non_zero_usize_get};
 ghost use Rattle.p2p_session.specs.Schemes.{scheme};
 ghost use Rattle.p2p_session.specs.Refusals.{number_of};
 ghost use Rattle.p2p_session.specs.declared.refusal.Refusal.TheVariants.{Memory};
-ghost use Rattle.p2p_session.specs.Given.{asked};
-ghost use Rattle.p2p_session.specs.Sessions.{IsFresh, Serves, Inits, IsMade, Asks};
+ghost use Rattle.p2p_session.specs.Given.{asked, numbers_of};
+ghost use Rattle.p2p_session.specs.Sessions.{IsFresh, Serves, InitsBy, IsMade, Asks};
 ghost use Rattle.p2p_session.specs.Sessions.{Checks, Receives};
 
 use crate::checked::Checked;
@@ -52,6 +52,7 @@ impl<C: PublicKey> Session<C> {
     /// Creates the node of a session that has none, with these settings. Returns 1. A peer's name
     /// is its key; the info, and the ingress after each bootstrapper's key, are encoded.
     #[allow(clippy::too_many_arguments)]
+    #[inline(never)]
     pub fn init(
         &mut self,
         alloc: Global,
@@ -73,11 +74,11 @@ impl<C: PublicKey> Session<C> {
         bootstrappers: &[u8],
         myself: &[u8],
     ) -> u64
-        ensures { Inits (scheme C.PublicKey C.Signature.FixedBytes) allow_private_ips allow_dns
-            max_sets dial_fail_limit
-            cooldown_seconds cooldown_nanos block_seconds block_nanos
-            max_bit_vec max_peers max_data_length peer_gossip_max_count bound_seconds bound_nanos
-            namespace.now bootstrappers.now myself.now self.old self.new result }
+        ensures { let k = scheme C.PublicKey C.Signature.FixedBytes in
+            InitsBy k (numbers_of allow_private_ips allow_dns max_sets dial_fail_limit
+            cooldown_seconds cooldown_nanos block_seconds block_nanos max_bit_vec max_peers
+            max_data_length peer_gossip_max_count bound_seconds bound_nanos) namespace.now
+            bootstrappers.now myself.now self.old self.new result }
     {
         let numbers = Numbers {
             allow_private_ips,
@@ -121,6 +122,7 @@ impl<C: PublicKey> Session<C> {
 
     /// The frame in which the session requests the wanted infos of the set at a position, or
     /// `None`.
+    #[inline(never)]
     pub fn ask(&mut self, place: u64, out: &mut [u8]) -> u64
         ensures { Asks (scheme C.PublicKey C.Signature.FixedBytes) place out.old out.new self.old
             self.new result }
@@ -138,6 +140,7 @@ impl<C: PublicKey> Session<C> {
     ///
     /// A frame that encodes a payload is kept decoded, in place of the one before, so that
     /// [`Session::receive`] needn't decode it again.
+    #[inline(never)]
     pub fn check(
         &mut self,
         alloc: Global,
@@ -161,6 +164,7 @@ impl<C: PublicKey> Session<C> {
     /// `Node::receive_with_verdicts` of the session's node: processes a frame, and writes the
     /// answer. `verdicts` has a byte for each of its infos, which says whether its signature is
     /// valid. A frame that was checked last is decoded already.
+    #[inline(never)]
     pub fn receive(
         &mut self,
         alloc: Global,

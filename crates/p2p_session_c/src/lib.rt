@@ -1,11 +1,12 @@
-//! The calls of a session for C and Rust: it is behind an opaque pointer, in memory that the host
-//! keeps. Written by tools/exports.sh from tools/exports/session.table, with the proofs.
+//! The exports of sessions for C and Rust: a session is behind an opaque pointer, in memory that the
+//! host keeps. Written by tools/exports.sh from tools/exports/session.table, with the proofs.
 //!
 //! Obligations of the host, which nothing checks. The memory of a session has size bytes and begins
 //! at a multiple of 16. It is neither read, written nor moved while a session is in it. new comes
 //! before each other call, and free once, after the last. One call at a time is made on a session,
-//! on whatever thread. A slice is its first byte and its length, points to that many initialised
-//! bytes, and overlaps neither another slice that is written nor the memory of the session.
+//! on whatever thread. A slice is its first item and how many it has, points to that many
+//! initialised ones, and overlaps neither another slice that is written nor the memory of the
+//! session.
 #![tactic(auto)]
 
 ghost use Rattle.std.specs.Prelude.{◌≡◌};
@@ -24,10 +25,11 @@ pub struct Handle {
     byte: u8,
 }
 
-/// Returns 1. Its name has a hash of what the calls are called, take and return, of the refusals
-/// and of the pairs of sizes. So a host that was compiled with others doesn't link.
+/// Returns 1. Its name has a hash of the calls with their numbers and arguments, of the refusals, of
+/// the pairs of sizes, and of the number of the forms of answers. So a host that was compiled with
+/// others doesn't link.
 #[unsafe(no_mangle)]
-pub extern "C" fn p2p_session_interface_c6aa43a92dc083a3() -> u64
+pub extern "C" fn p2p_session_interface_635a3664c34196d3() -> u64
     ensures { result ≡ 1 }
 {
     1

@@ -1,7 +1,6 @@
-//! Chooses what is linked: the library with the toolchain's heap, from the first of these that the
-//! environment sets.
+//! Chooses which `libp2p_session.a` is linked, from the first of these that the environment sets.
 //!
-//! 1. `P2P_SESSION_LIB`: a folder with `libp2p_session.a`, or with `libp2p_session_c.a` and `liblibc_c.a`.
+//! 1. `P2P_SESSION_LIB`: a folder with one.
 //! 2. `P2P_SESSION_PROVE=1`: what `tools/archive.sh` of the repository proves and builds.
 //! 3. `P2P_SESSION_PKG_CONFIG=1`: the package `p2p_session` that pkg-config finds.
 //! 4. The archive within this package, for the target that it was built for.
@@ -19,11 +18,11 @@ use std::io;
 use std::path::{Path, PathBuf};
 use std::process::{Command, Stdio};
 
-/// One archive with both, as in a release.
-const BOTH: &str = "p2p_session";
+/// The name of the library.
+const LIBRARY: &str = "p2p_session";
 
-/// The library and the heap, as the toolchain builds them.
-const APART: [&str; 2] = ["p2p_session_c", "libc_c"];
+/// Its file, which has the toolchain's heap, too.
+const ARCHIVE: &str = "libp2p_session.a";
 
 /// The variables that decide which library is linked.
 const ASKED: [&str; 7] = [
@@ -62,48 +61,25 @@ fn is_on(name: &str) -> bool {
     env::var_os(name).is_some_and(|value| value == "1")
 }
 
-/// Links the archives of a folder, and returns their paths.
-fn link(folder: &Path) -> Result<Vec<PathBuf>, String> {
-    let archive = |name: &str| folder.join(format!("lib{name}.a"));
-    let names = if archive(BOTH).is_file() {
-        &[BOTH][..]
-    } else {
-        &APART
-    };
-    let archives: Vec<PathBuf> = names.iter().copied().map(archive).collect();
-    if archives.iter().any(|archive| !archive.is_file()) {
-        let [library, heap] = APART;
-        return Err(format!(
-            "{} has neither lib{BOTH}.a nor lib{library}.a with lib{heap}.a",
-            folder.display()
-        ));
+/// Links the archive of a folder, and returns its path.
+fn link(folder: &Path) -> Result<PathBuf, String> {
+    let archive = folder.join(ARCHIVE);
+    if !archive.is_file() {
+        return Err(format!("{} has no {ARCHIVE}", folder.display()));
     }
+    let bytes = fs::read(&archive).map_err(|error| format!("{}: {error}", archive.display()))?;
     println!(
         "cargo::rustc-env=P2P_SESSION_ARCHIVE={}",
-        hash_of(&archives)?
+        sha256::hex(&bytes)
     );
     println!("cargo::rustc-link-search=native={}", folder.display());
-    for name in names {
-        println!("cargo::rustc-link-lib=static={name}");
-    }
-    Ok(archives)
+    println!("cargo::rustc-link-lib=static={LIBRARY}");
+    Ok(archive)
 }
 
-/// The hash of what is linked.
-fn hash_of(archives: &[PathBuf]) -> Result<String, String> {
-    let mut all = Vec::new();
-    for archive in archives {
-        let bytes = fs::read(archive);
-        all.extend(bytes.map_err(|error| format!("{}: {error}", archive.display()))?);
-    }
-    Ok(sha256::hex(&all))
-}
-
-/// Links the archives of a folder, and again whenever they change.
+/// Links the archive of a folder, and again whenever it changes.
 fn link_and_track(folder: &Path) -> Result<(), String> {
-    for archive in link(folder)? {
-        println!("cargo::rerun-if-changed={}", archive.display());
-    }
+    println!("cargo::rerun-if-changed={}", link(folder)?.display());
     Ok(())
 }
 
@@ -124,11 +100,8 @@ fn proved() -> Result<(), String> {
         );
     }
     let out = PathBuf::from(env::var_os("OUT_DIR").expect("cargo sets it"));
-    for name in APART.map(|name| format!("lib{name}.a")) {
-        let built = repository.join("crates/p2p_session_c/out").join(&name);
-        fs::copy(&built, out.join(&name))
-            .map_err(|error| format!("{}: {error}", built.display()))?;
-    }
+    let built = repository.join("crates/p2p_session_c/out").join(ARCHIVE);
+    fs::copy(&built, out.join(ARCHIVE)).map_err(|error| format!("{}: {error}", built.display()))?;
     // Not tracked: cargo treats files that a build script writes as changed, and would prove again
     // each time.
     link(&out).map(drop)
@@ -139,13 +112,13 @@ fn installed() -> Result<(), String> {
     let program = env::var_os("PKG_CONFIG").unwrap_or_else(|| "pkg-config".into());
     let version = env!("CARGO_PKG_VERSION");
     let asked = Command::new(program)
-        .args(["--variable=libdir", &format!("{BOTH} = {version}")])
+        .args(["--variable=libdir", &format!("{LIBRARY} = {version}")])
         .output()
         .map_err(|error| format!("pkg-config, which P2P_SESSION_PKG_CONFIG=1 asks: {error}"))?;
     if !asked.status.success() {
         let said = String::from_utf8_lossy(&asked.stderr);
         return Err(format!(
-            "pkg-config finds no {BOTH} {version}: {}. Set PKG_CONFIG_PATH to the folder of {BOTH}.pc",
+            "pkg-config finds no {LIBRARY} {version}: {}. Set PKG_CONFIG_PATH to the folder of {LIBRARY}.pc",
             said.trim().replace('\n', " ")
         ));
     }

@@ -5,7 +5,7 @@
 //! is proved in Rattle. Arguments and results are numbers, and slices of bytes in the forms of
 //! `docs/C.md` of the repository.
 //!
-//! A call returns a count, a bool as 0 or 1, a length, or one of the numbers from [`BAD_VERDICTS`]
+//! A call returns a count, a bool as 0 or 1, a length, or one of the numbers from [`BAD_CALL`]
 //! on. With these nothing has changed and nothing was written. The crate `p2p-directory` has the
 //! same calls with types.
 //!
@@ -15,7 +15,7 @@
 //!
 //! | Set | Linked |
 //! |---|---|
-//! | `P2P_SESSION_LIB` to an absolute path | `libp2p_session.a` there, else `libp2p_session_c.a` and `liblibc_c.a` |
+//! | `P2P_SESSION_LIB` to an absolute path | `libp2p_session.a` there |
 //! | `P2P_SESSION_PROVE=1`, in a clone with the toolchain | the present sources, proved first in an hour or so |
 //! | `P2P_SESSION_PKG_CONFIG=1` | the `p2p_session` of this version that pkg-config finds |
 //! | none of them | the archive within this package, for `x86_64-unknown-linux-gnu`; `PROVED` says what was proved |
@@ -42,8 +42,18 @@ compile_error!("the library is built for targets whose `usize` has 64 bits");
 #[allow(unsafe_code)]
 #[rustfmt::skip]
 mod exports;
+#[allow(unsafe_code)]
+mod library;
+mod session;
 
 pub use exports::*;
+
+/// A session of any pair of sizes, and what makes its calls. The names at the root of the crate, and
+/// those of the modules of other pairs, are aliases of these.
+pub mod sized {
+    pub use crate::library::{Library, Pair};
+    pub use crate::session::{Caller, Session};
+}
 
 /// The SHA-256 of the archive that is linked, or of the two, one behind the other. It is all zeros
 /// if none is.

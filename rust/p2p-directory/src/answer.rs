@@ -16,7 +16,7 @@ pub(crate) fn answered(answer: u64) -> Result<Option<u64>, OutOfMemory> {
     match answer {
         exports::MEMORY => Err(OutOfMemory),
         exports::NONE => Ok(None),
-        exports::BAD_VERDICTS.. => unknown(answer),
+        exports::BAD_CALL.. => unknown(answer),
         number => Ok(Some(number)),
     }
 }

@@ -4,4 +4,4 @@ pub use crate::shared::*;
 
 crate::keys::plain_key!(keys32_64, 32, p2p_directory_sys);
 crate::keys::signature!(keys32_64, 64);
-crate::keys::pair!(keys32_64, Keys32_64, p2p_directory_sys::Session);
+crate::keys::pair!(keys32_64, Keys32_64, p2p_directory_sys);

@@ -12,6 +12,7 @@ mod session_tests;
 #[path = "spoilt_frames.rs"]
 mod spoilt_frames;
 mod suite;
+mod table;
 
 use p2p_directory::keys33_64 as pair;
 use p2p_directory_sys::keys33_64 as exports;

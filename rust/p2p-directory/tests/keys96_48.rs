@@ -5,6 +5,7 @@
 
 mod session_tests;
 mod suite;
+mod table;
 
 use p2p_directory::keys96_48 as pair;
 use p2p_directory_sys::keys96_48 as exports;

@@ -3,9 +3,11 @@
 ghost use Rattle.std.specs.Prelude.{◌≡◌};
 ghost use Rattle.p2p_session.specs.Schemes.{scheme};
 ghost use Rattle.p2p_session.specs.Given.{track_of};
-ghost use Rattle.p2p_session.specs.Sessions.{Serves, Dials, Listens, TellsConnect, TellsRelease};
-ghost use Rattle.p2p_session.specs.Sessions.{Blocks, Unblocks, Forgets, TellsRoom, room_refusal};
-ghost use Rattle.p2p_session.specs.Sessions.{Tracks, UpdatesPeers, HasRoom, Fits};
+ghost use Rattle.p2p_tracker.specs.Calls.Call.{Block, Connect, Dial, ForgetCooled, Listen};
+ghost use Rattle.p2p_tracker.specs.Calls.Call.{Release, UnblockExpired};
+ghost use Rattle.p2p_session.specs.Sessions.{Answers, Fits, HasRoom, Serves, TellsRoom, Tracks};
+ghost use Rattle.p2p_session.specs.Sessions.{UpdatesPeers, at_moment, of_peer, of_peer_at};
+ghost use Rattle.p2p_session.specs.Sessions.{room_refusal, with_draw};
 
 use crate::given::{key, moment};
 use crate::refusal::Refusal;
@@ -20,6 +22,7 @@ impl<C: PublicKey> Session<C> {
     /// Calls `Directory::track` of the session's node, with the sets of these keys. Returns the
     /// keys of the peers that must be disconnected, or `None` if the set isn't accepted. The buffer
     /// must have [`Session::track_room`] bytes.
+    #[inline(never)]
     pub fn track(
         &mut self,
         alloc: Global,
@@ -72,6 +75,7 @@ impl<C: PublicKey> Session<C> {
 
     /// How long the buffer of the session's call `track` must be: the size of the keys of all peers
     /// with a record.
+    #[inline(never)]
     pub fn track_room(&mut self) -> u64
         ensures { TellsRoom (scheme C.PublicKey C.Signature.FixedBytes) self.old self.new result }
     {
@@ -101,8 +105,9 @@ impl<C: PublicKey> Session<C> {
         draw_seconds: u64,
         draw_nanos: u32,
     ) -> u64
-        ensures { Dials (scheme C.PublicKey C.Signature.FixedBytes) peer.now seconds nanos
-            draw_seconds draw_nanos self.old self.new result }
+        ensures { let k = scheme C.PublicKey C.Signature.FixedBytes in Answers k (with_draw k
+            peer.now seconds nanos draw_seconds draw_nanos (λ p now draw. Dial p now draw))
+            self.old self.new result }
     {
         let Some(node) = &mut self.node else {
             return Refusal::NoNode.number();
@@ -130,8 +135,9 @@ impl<C: PublicKey> Session<C> {
         draw_seconds: u64,
         draw_nanos: u32,
     ) -> u64
-        ensures { Listens (scheme C.PublicKey C.Signature.FixedBytes) peer.now seconds nanos
-            draw_seconds draw_nanos self.old self.new result }
+        ensures { let k = scheme C.PublicKey C.Signature.FixedBytes in Answers k (with_draw k
+            peer.now seconds nanos draw_seconds draw_nanos (λ p now draw. Listen p now draw))
+            self.old self.new result }
     {
         let Some(node) = &mut self.node else {
             return Refusal::NoNode.number();
@@ -150,9 +156,10 @@ impl<C: PublicKey> Session<C> {
     }
 
     /// Calls `Directory::connect` of the session's node. Returns 1, or `NotReserved`.
+    #[inline(never)]
     pub fn connect(&mut self, peer: &[u8], dialer: bool) -> u64
-        ensures { TellsConnect (scheme C.PublicKey C.Signature.FixedBytes) peer.now dialer self.old
-            self.new result }
+        ensures { let k = scheme C.PublicKey C.Signature.FixedBytes in Answers k (of_peer k
+            peer.now (λ p. Connect p dialer)) self.old self.new result }
     {
         let Some(node) = &mut self.node else {
             return Refusal::NoNode.number();
@@ -169,9 +176,10 @@ impl<C: PublicKey> Session<C> {
 
     /// Calls `Directory::release` of the session's node, for what is held of the peer. Returns 1,
     /// or `NotHeld`.
+    #[inline(never)]
     pub fn release(&mut self, peer: &[u8]) -> u64
-        ensures { TellsRelease (scheme C.PublicKey C.Signature.FixedBytes) peer.now self.old
-            self.new result }
+        ensures { let k = scheme C.PublicKey C.Signature.FixedBytes in Answers k (of_peer k
+            peer.now (λ p. Release p)) self.old self.new result }
     {
         let Some(node) = &mut self.node else {
             return Refusal::NoNode.number();
@@ -188,6 +196,7 @@ impl<C: PublicKey> Session<C> {
 
     /// Calls `Directory::update_peers` of the session's node, with the infos that these bytes
     /// encode as a list. Returns 1. The host must have made or verified the infos itself.
+    #[inline(never)]
     pub fn update_peers(&mut self, alloc: Global, infos: &[u8]) -> u64
         ensures { UpdatesPeers (scheme C.PublicKey C.Signature.FixedBytes) infos.now self.old
             self.new result }
@@ -196,9 +205,10 @@ impl<C: PublicKey> Session<C> {
     }
 
     /// Calls `Directory::block` of the session's node. Returns 1 if the block takes effect, else 0.
+    #[inline(never)]
     pub fn block(&mut self, peer: &[u8], seconds: u64, nanos: u32) -> u64
-        ensures { Blocks (scheme C.PublicKey C.Signature.FixedBytes) peer.now seconds nanos self.old
-            self.new result }
+        ensures { let k = scheme C.PublicKey C.Signature.FixedBytes in Answers k (of_peer_at k
+            peer.now seconds nanos (λ p now. Block p now)) self.old self.new result }
     {
         let Some(node) = &mut self.node else {
             return Refusal::NoNode.number();
@@ -216,9 +226,10 @@ impl<C: PublicKey> Session<C> {
 
     /// Calls `Directory::unblock_expired` of the session's node. Returns 1 if a block ended, else
     /// 0.
+    #[inline(never)]
     pub fn unblock_expired(&mut self, seconds: u64, nanos: u32) -> u64
-        ensures { Unblocks (scheme C.PublicKey C.Signature.FixedBytes) seconds nanos self.old
-            self.new result }
+        ensures { Answers (scheme C.PublicKey C.Signature.FixedBytes) (at_moment seconds nanos (λ
+            now. UnblockExpired now)) self.old self.new result }
     {
         let Some(node) = &mut self.node else {
             return Refusal::NoNode.number();
@@ -231,9 +242,10 @@ impl<C: PublicKey> Session<C> {
 
     /// Calls `Directory::forget_cooled` of the session's node. Returns how many cooldowns were
     /// forgotten.
+    #[inline(never)]
     pub fn forget_cooled(&mut self, seconds: u64, nanos: u32) -> u64
-        ensures { Forgets (scheme C.PublicKey C.Signature.FixedBytes) seconds nanos self.old
-            self.new result }
+        ensures { Answers (scheme C.PublicKey C.Signature.FixedBytes) (at_moment seconds nanos (λ
+            now. ForgetCooled now)) self.old self.new result }
     {
         let Some(node) = &mut self.node else {
             return Refusal::NoNode.number();

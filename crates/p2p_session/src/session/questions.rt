@@ -1,11 +1,15 @@
 //! Questions to a session's node: the calls that change nothing.
 
+ghost use Rattle.std.specs.Prelude.{Ok};
 ghost use Rattle.p2p_session.specs.Schemes.{scheme};
-ghost use Rattle.p2p_session.specs.Sessions.{TellsUnblock, TellsBlocked, TellsStatus, TellsPeerSet};
-ghost use Rattle.p2p_session.specs.Sessions.{TellsLatestIndex, TellsUpdate, TellsAll, TellsInfo};
-ghost use Rattle.p2p_session.specs.Sessions.{TellsBits, TellsEligible, TellsAcceptable};
-ghost use Rattle.p2p_session.specs.Sessions.{TellsDialable, TellsTracked, TellsInfos};
-ghost use Rattle.p2p_session.specs.Sessions.{TellsReservation, TellsRetained, TellsNextCooled};
+ghost use Rattle.p2p_tracker.specs.Calls.Call.{Ask};
+ghost use Rattle.p2p_tracker.specs.Calls.Question.{AllPeers, BitsAt, BlockedAt, DialableAt};
+ghost use Rattle.p2p_tracker.specs.Calls.Question.{InfoOf, IsAcceptable, IsEligible, LatestIndex};
+ghost use Rattle.p2p_tracker.specs.Calls.Question.{LatestUpdate, NextUnblock, NumberTracked};
+ghost use Rattle.p2p_tracker.specs.Calls.Question.{PeerSet, StatusOf};
+ghost use Rattle.p2p_session.specs.Sessions.{Answers, TellsInfos, TellsNextCooled};
+ghost use Rattle.p2p_session.specs.Sessions.{TellsReservation, TellsRetained, Writes, at_moment};
+ghost use Rattle.p2p_session.specs.Sessions.{of_peer, of_peer_at};
 
 use crate::commands;
 use crate::given::{key, moment};
@@ -19,6 +23,7 @@ use std::alloc::Global;
 impl<C: PublicKey> Session<C> {
     /// Asks the session's node by `Directory::infos`, for the encoded bits and their index. Returns
     /// the encoded list, or `None`.
+    #[inline(never)]
     pub fn infos(
         &mut self,
         alloc: Global,
@@ -34,9 +39,10 @@ impl<C: PublicKey> Session<C> {
     }
 
     /// Asks the session's node by `Directory::next_unblock`: the time, or `None`.
+    #[inline(never)]
     pub fn next_unblock(&mut self, out: &mut [u8]) -> u64
-        ensures { TellsUnblock (scheme C.PublicKey C.Signature.FixedBytes) out.old out.new self.old
-            self.new result }
+        ensures { Writes (scheme C.PublicKey C.Signature.FixedBytes) (Ok (Ask NextUnblock)) out.old
+            out.new self.old self.new result }
     {
         let Some(node) = &self.node else {
             return Refusal::NoNode.number();
@@ -45,18 +51,20 @@ impl<C: PublicKey> Session<C> {
     }
 
     /// Asks the session's node by `Directory::blocked_peers`: their keys.
+    #[inline(never)]
     pub fn blocked_peers(&mut self, seconds: u64, nanos: u32, out: &mut [u8]) -> u64
-        ensures { TellsBlocked (scheme C.PublicKey C.Signature.FixedBytes) seconds nanos out.old
-            out.new self.old self.new result }
+        ensures { Writes (scheme C.PublicKey C.Signature.FixedBytes) (at_moment seconds nanos (λ
+            now. Ask (BlockedAt now))) out.old out.new self.old self.new result }
     {
         self.serve(commands::blocked_peers(seconds, nanos), out)
     }
 
     /// Asks the session's node by `Directory::status`: 0 for `Inert`, 1 for `Reserved`, 2 for
     /// `Active`, or `None`.
+    #[inline(never)]
     pub fn status(&mut self, peer: &[u8]) -> u64
-        ensures { TellsStatus (scheme C.PublicKey C.Signature.FixedBytes) peer.now self.old self.new
-            result }
+        ensures { let k = scheme C.PublicKey C.Signature.FixedBytes in Answers k (of_peer k
+            peer.now (λ p. Ask (StatusOf p))) self.old self.new result }
     {
         let Some(node) = &self.node else {
             return Refusal::NoNode.number();
@@ -69,17 +77,19 @@ impl<C: PublicKey> Session<C> {
 
     /// Asks the session's node by `Directory::get_peer_set`: the number of primary peers, their
     /// keys, and the keys of the secondary peers, or `None`.
+    #[inline(never)]
     pub fn get_peer_set(&mut self, index: u64, out: &mut [u8]) -> u64
-        ensures { TellsPeerSet (scheme C.PublicKey C.Signature.FixedBytes) index out.old out.new
-            self.old self.new result }
+        ensures { Writes (scheme C.PublicKey C.Signature.FixedBytes) (Ok (Ask (PeerSet index)))
+            out.old out.new self.old self.new result }
     {
         self.serve(Ok(Command::GetPeerSet(index)), out)
     }
 
     /// Asks the session's node by `Directory::latest_set_index`: the index, or `None`.
+    #[inline(never)]
     pub fn latest_set_index(&mut self, out: &mut [u8]) -> u64
-        ensures { TellsLatestIndex (scheme C.PublicKey C.Signature.FixedBytes) out.old out.new
-            self.old self.new result }
+        ensures { Writes (scheme C.PublicKey C.Signature.FixedBytes) (Ok (Ask LatestIndex)) out.old
+            out.new self.old self.new result }
     {
         let Some(node) = &self.node else {
             return Refusal::NoNode.number();
@@ -90,43 +100,48 @@ impl<C: PublicKey> Session<C> {
     /// Asks the session's node by `Directory::latest_update`. Returns the index, the lengths of the
     /// first three lists, and the primary and secondary peers of the latest set and of all sets, or
     /// `None`.
+    #[inline(never)]
     pub fn latest_update(&mut self, out: &mut [u8]) -> u64
-        ensures { TellsUpdate (scheme C.PublicKey C.Signature.FixedBytes) out.old out.new self.old
-            self.new result }
+        ensures { Writes (scheme C.PublicKey C.Signature.FixedBytes) (Ok (Ask LatestUpdate))
+            out.old out.new self.old self.new result }
     {
         self.serve(Ok(Command::LatestUpdate), out)
     }
 
     /// Asks the session's node by `Directory::all`: the number of primary peers, their keys, and
     /// the keys of the secondary peers.
+    #[inline(never)]
     pub fn all(&mut self, out: &mut [u8]) -> u64
-        ensures { TellsAll (scheme C.PublicKey C.Signature.FixedBytes) out.old out.new self.old
-            self.new result }
+        ensures { Writes (scheme C.PublicKey C.Signature.FixedBytes) (Ok (Ask AllPeers)) out.old
+            out.new self.old self.new result }
     {
         self.serve(Ok(Command::All), out)
     }
 
     /// Asks the session's node by `Directory::info`: the encoded info, or `None`.
+    #[inline(never)]
     pub fn info(&mut self, _alloc: Global, peer: &[u8], out: &mut [u8]) -> u64
-        ensures { TellsInfo (scheme C.PublicKey C.Signature.FixedBytes) peer.now out.old out.new
-            self.old self.new result }
+        ensures { let k = scheme C.PublicKey C.Signature.FixedBytes in Writes k (of_peer k peer.now
+            (λ p. Ask (InfoOf p))) out.old out.new self.old self.new result }
     {
         self.serve(commands::info(peer), out)
     }
 
     /// Asks the session's node by `Directory::get_random_bit_vec`: the encoded bits with their
     /// index, or `None`.
+    #[inline(never)]
     pub fn get_random_bit_vec(&mut self, _alloc: Global, place: u64, out: &mut [u8]) -> u64
-        ensures { TellsBits (scheme C.PublicKey C.Signature.FixedBytes) place out.old out.new
-            self.old self.new result }
+        ensures { Writes (scheme C.PublicKey C.Signature.FixedBytes) (Ok (Ask (BitsAt place)))
+            out.old out.new self.old self.new result }
     {
         self.serve(Ok(Command::GetRandomBitVec(place as usize)), out)
     }
 
     /// Asks the session's node by `Directory::eligible`: 1 or 0.
+    #[inline(never)]
     pub fn eligible(&mut self, peer: &[u8], seconds: u64, nanos: u32) -> u64
-        ensures { TellsEligible (scheme C.PublicKey C.Signature.FixedBytes) peer.now seconds nanos
-            self.old self.new result }
+        ensures { let k = scheme C.PublicKey C.Signature.FixedBytes in Answers k (of_peer_at k
+            peer.now seconds nanos (λ p now. Ask (IsEligible p now))) self.old self.new result }
     {
         let Some(node) = &self.node else {
             return Refusal::NoNode.number();
@@ -139,9 +154,10 @@ impl<C: PublicKey> Session<C> {
     }
 
     /// Asks the session's node by `Directory::acceptable`: 1 or 0.
+    #[inline(never)]
     pub fn acceptable(&mut self, peer: &[u8], seconds: u64, nanos: u32) -> u64
-        ensures { TellsAcceptable (scheme C.PublicKey C.Signature.FixedBytes) peer.now seconds nanos
-            self.old self.new result }
+        ensures { let k = scheme C.PublicKey C.Signature.FixedBytes in Answers k (of_peer_at k
+            peer.now seconds nanos (λ p now. Ask (IsAcceptable p now))) self.old self.new result }
     {
         let Some(node) = &self.node else {
             return Refusal::NoNode.number();
@@ -155,17 +171,20 @@ impl<C: PublicKey> Session<C> {
 
     /// Asks the session's node by `Directory::dialable`: whether a time to ask again follows, that
     /// time, and the keys.
+    #[inline(never)]
     pub fn dialable(&mut self, seconds: u64, nanos: u32, out: &mut [u8]) -> u64
-        ensures { TellsDialable (scheme C.PublicKey C.Signature.FixedBytes) seconds nanos out.old
-            out.new self.old self.new result }
+        ensures { Writes (scheme C.PublicKey C.Signature.FixedBytes) (at_moment seconds nanos (λ
+            now. Ask (DialableAt now))) out.old out.new self.old self.new result }
     {
         self.serve(commands::dialable(seconds, nanos), out)
     }
 
     /// Asks the session's node by `Directory::tracked`: how many peers have a record, except the
     /// local node.
+    #[inline(never)]
     pub fn tracked(&mut self) -> u64
-        ensures { TellsTracked (scheme C.PublicKey C.Signature.FixedBytes) self.old self.new result }
+        ensures { Answers (scheme C.PublicKey C.Signature.FixedBytes) (Ok (Ask NumberTracked))
+            self.old self.new result }
     {
         let Some(node) = &self.node else {
             return Refusal::NoNode.number();
@@ -174,6 +193,7 @@ impl<C: PublicKey> Session<C> {
     }
 
     /// Asks the session's node by `Directory::retained`. Returns the number of retained sets.
+    #[inline(never)]
     pub fn retained(&mut self) -> u64
         ensures { TellsRetained (scheme C.PublicKey C.Signature.FixedBytes)
             self.old self.new result }
@@ -185,6 +205,7 @@ impl<C: PublicKey> Session<C> {
     }
 
     /// Asks the session's node by `Directory::next_cooled`: the time, or `None`.
+    #[inline(never)]
     pub fn next_cooled(&mut self, out: &mut [u8]) -> u64
         ensures { TellsNextCooled (scheme C.PublicKey C.Signature.FixedBytes) out.old out.new
             self.old self.new result }
@@ -198,6 +219,7 @@ impl<C: PublicKey> Session<C> {
     /// Asks the session's node whom the reservation held of a peer is for: byte 0 for an inbound
     /// peer, or byte 1 and the encoded ingress that is dialled. `None` if none is held. It
     /// allocates nothing.
+    #[inline(never)]
     pub fn reservation(&mut self, peer: &[u8], out: &mut [u8]) -> u64
         ensures { TellsReservation (scheme C.PublicKey C.Signature.FixedBytes) peer.now out.old
             out.new self.old self.new result }

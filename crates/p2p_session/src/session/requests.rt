@@ -1,13 +1,16 @@
 //! The one call of a session: requests as numbers and bytes.
+//!
+//! The methods that it calls are out of line (`#[inline(never)]`): if they were part of it, each call
+//! would take the stack of the one that takes most.
 
 ghost use Rattle.std.specs.Prelude.{◌≡◌, ℕ, [], length};
 ghost use Rattle.p2p_session.specs.Schemes.{scheme};
 ghost use Rattle.p2p_session.specs.Given.{moment_at};
-ghost use Rattle.p2p_session.specs.Requests.{ServesRequest, request_of, bool_at};
+ghost use Rattle.p2p_session.specs.Requests.{ServesCall, ServesRequest, request_of, bool_at};
 ghost use Rattle.p2p_session.specs.Requests.{of_nothing, of_bytes, of_number, of_moment};
-ghost use Rattle.p2p_session.specs.Requests.{of_bytes_at, of_frame, of_draw};
+ghost use Rattle.p2p_session.specs.Requests.{of_bytes_at, of_frame};
 
-use crate::refusal::BAD_CALL;
+use crate::refusal::Refusal;
 use crate::session::Session;
 use p2p_discovery::codec::PublicKey;
 use std::alloc::Global;
@@ -48,7 +51,7 @@ impl<C: PublicKey> Session<C> {
     ///
     /// # Errors
     ///
-    /// [`BAD_CALL`] if no call has this number, if it doesn't take as many numbers, if a bool is
+    /// [`Refusal::BadCall`] if no call has this number, if it doesn't take as many numbers, if a bool is
     /// neither 0 nor 1, or if there are bytes that the call doesn't take. This comes before all
     /// other refusals, and nothing changes then.
     ///
@@ -66,15 +69,14 @@ impl<C: PublicKey> Session<C> {
         third: &[u8],
         out: &mut [u8],
     ) -> u64
-        ensures { let k = scheme C.PublicKey C.Signature.FixedBytes in
-            ServesRequest k (request_of k number numbers.now first.now second.now third.now)
-            out.old out.new self.old self.new result }
+        ensures { ServesCall (scheme C.PublicKey C.Signature.FixedBytes) number numbers.now
+            first.now second.now third.now out.old out.new self.old self.new result }
     {
         if numbers.len() == SETUP_NUMBERS {
             return self.call_init(alloc, number, numbers, first, second, third);
         }
         if !third.is_empty() {
-            return BAD_CALL;
+            return Refusal::BadCall.number();
         }
         match numbers {
             [] if second.is_empty() => self.call_of_bytes(alloc, number, first, out),
@@ -83,11 +85,8 @@ impl<C: PublicKey> Session<C> {
                 let time = (*seconds, *nanos);
                 self.call_at(alloc, number, first, second, time, out)
             }
-            [seconds, nanos, draw_seconds, draw_nanos] if second.is_empty() => {
-                let (time, draw) = ((*seconds, *nanos), (*draw_seconds, *draw_nanos));
-                self.call_with_draw(number, first, time, draw)
-            }
-            _ => BAD_CALL,
+            [_, _, _, _] if second.is_empty() => self.call_with_draw(number, first, numbers),
+            _ => Refusal::BadCall.number(),
         }
     }
 
@@ -105,7 +104,7 @@ impl<C: PublicKey> Session<C> {
             26 => self.retained(),
             27 => self.next_cooled(out),
             28 => self.tracked(),
-            _ => BAD_CALL,
+            _ => Refusal::BadCall.number(),
         }
     }
 
@@ -121,7 +120,7 @@ impl<C: PublicKey> Session<C> {
             15 => self.status(bytes),
             20 => self.info(alloc, bytes, out),
             _ if bytes.is_empty() => self.call_of_nothing(number, out),
-            _ => BAD_CALL,
+            _ => Refusal::BadCall.number(),
         }
     }
 
@@ -143,12 +142,12 @@ impl<C: PublicKey> Session<C> {
             2 => self.track(alloc, n, first, second, out),
             7 if second.is_empty() => match bool_of(n) {
                 Some(dialer) => self.connect(first, dialer),
-                None => BAD_CALL,
+                None => Refusal::BadCall.number(),
             },
             16 if first.is_empty() && second.is_empty() => self.get_peer_set(n, out),
             22 if first.is_empty() && second.is_empty() => self.get_random_bit_vec(alloc, n, out),
             29 if first.is_empty() && second.is_empty() => self.ask(n, out),
-            _ => BAD_CALL,
+            _ => Refusal::BadCall.number(),
         }
     }
 
@@ -164,7 +163,7 @@ impl<C: PublicKey> Session<C> {
             12 => self.forget_cooled(seconds, nanos),
             14 => self.blocked_peers(seconds, nanos, out),
             25 => self.dialable(seconds, nanos, out),
-            _ => BAD_CALL,
+            _ => Refusal::BadCall.number(),
         }
     }
 
@@ -189,7 +188,7 @@ impl<C: PublicKey> Session<C> {
             24 => self.acceptable(bytes, seconds, nanos),
             30 => self.check(alloc, bytes, seconds, nanos, out),
             _ if bytes.is_empty() => self.call_of_moment(number, time, out),
-            _ => BAD_CALL,
+            _ => Refusal::BadCall.number(),
         }
     }
 
@@ -210,32 +209,31 @@ impl<C: PublicKey> Session<C> {
         match number {
             31 => self.receive(alloc, first, time.0, nanos_of(time.1), second, out),
             _ if second.is_empty() => self.call_of_bytes_at(alloc, number, first, time, out),
-            _ => BAD_CALL,
+            _ => Refusal::BadCall.number(),
         }
     }
 
     // The calls that take a peer, a moment and a draw.
-    fn call_with_draw(
-        &mut self,
-        number: u64,
-        peer: &[u8],
-        time: (u64, u64),
-        draw: (u64, u64),
-    ) -> u64
+    #[inline(never)]
+    fn call_with_draw(&mut self, number: u64, peer: &[u8], numbers: &[u64]) -> u64
+        requires { length numbers.now ≡ 4 }
         ensures { let k = scheme C.PublicKey C.Signature.FixedBytes in
-            ServesRequest k (of_draw k number peer.now time.0 time.1 draw.0 draw.1)
+            ServesRequest k (request_of k number numbers.now peer.now [] [])
             [] [] self.old self.new result }
     {
-        let (seconds, nanos) = (time.0, nanos_of(time.1));
-        let (draw_seconds, draw_nanos) = (draw.0, nanos_of(draw.1));
+        let [seconds, nanos, draw_seconds, draw_nanos] = numbers else {
+            return Refusal::BadCall.number();
+        };
+        let (nanos, draw_nanos) = (nanos_of(*nanos), nanos_of(*draw_nanos));
         match number {
-            4 => self.dial(peer, seconds, nanos, draw_seconds, draw_nanos),
-            5 => self.listen(peer, seconds, nanos, draw_seconds, draw_nanos),
-            _ => BAD_CALL,
+            4 => self.dial(peer, *seconds, nanos, *draw_seconds, draw_nanos),
+            5 => self.listen(peer, *seconds, nanos, *draw_seconds, draw_nanos),
+            _ => Refusal::BadCall.number(),
         }
     }
 
     // Creates the node: the only call that takes so many numbers. The first two are bools.
+    #[inline(never)]
     fn call_init(
         &mut self,
         alloc: Global,
@@ -251,7 +249,7 @@ impl<C: PublicKey> Session<C> {
             myself.now) [] [] self.old self.new result }
     {
         if number != 1 {
-            return BAD_CALL;
+            return Refusal::BadCall.number();
         }
         match (bool_of(numbers[0]), bool_of(numbers[1])) {
             (Some(private_ips), Some(dns)) => self.init(
@@ -274,7 +272,7 @@ impl<C: PublicKey> Session<C> {
                 bootstrappers,
                 myself,
             ),
-            _ => BAD_CALL,
+            _ => Refusal::BadCall.number(),
         }
     }
 }

@@ -34,9 +34,10 @@ macro_rules! bytes {
 }
 
 /// A pair of sizes, with the names of the crate for it: `$name` is its name, and `$module` where its
-/// names stand. The module has its key, its signature and their sizes.
+/// names stand. The module has its key, its signature and their sizes, and `$exports` what the library
+/// has for them.
 macro_rules! pair {
-    ($module:ident, $name:ident, $session:path) => {
+    ($module:ident, $name:ident, $exports:ident) => {
         /// The sizes of the keys and signatures of this module, for the types of
         /// [`sized`](crate::sized).
         ///
@@ -58,7 +59,7 @@ macro_rules! pair {
         }
 
         impl $crate::sized::Sealed for $name {
-            type Calls = $session;
+            type Exports = $exports::$name;
             const LEAST_FIRST: u8 = LEAST_FIRST;
 
             fn spare() -> &'static std::sync::Mutex<$crate::sized::Spare<$name>> {

@@ -11,4 +11,4 @@ pub use crate::shared::*;
 
 crate::keys::first_key!(keys33_64, 33, exports);
 crate::keys::signature!(keys33_64, 64);
-crate::keys::pair!(keys33_64, Keys33_64, exports::Session);
+crate::keys::pair!(keys33_64, Keys33_64, exports);

@@ -10,4 +10,4 @@ pub use crate::shared::*;
 
 crate::keys::plain_key!(keys48_96, 48, exports);
 crate::keys::signature!(keys48_96, 96);
-crate::keys::pair!(keys48_96, Keys48_96, exports::Session);
+crate::keys::pair!(keys48_96, Keys48_96, exports);

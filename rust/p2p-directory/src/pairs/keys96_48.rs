@@ -10,4 +10,4 @@ pub use crate::shared::*;
 
 crate::keys::plain_key!(keys96_48, 96, exports);
 crate::keys::signature!(keys96_48, 48);
-crate::keys::pair!(keys96_48, Keys96_48, exports::Session);
+crate::keys::pair!(keys96_48, Keys96_48, exports);

@@ -1,244 +1,82 @@
-//! The calls that a log may have, in the order of their numbers, which begin at 1.
-// Written by tools/exports.sh from tools/exports/session.table.
+//! The calls that a log may have.
 
-use super::log::Form::{Bytes, Flag, Number, Room};
-use super::log::{CallForm, Parameter};
+use Form::{Bytes, Flag, Frame, Number, Room, Small};
 
-/// The calls, in the order of their numbers.
+/// What a parameter of a call has in a log.
+#[derive(Clone, Copy, Debug, PartialEq, Eq)]
+pub(crate) enum Form {
+    /// A bool, as the number 0 or 1.
+    Flag,
+    /// A number of 32 bits.
+    Small,
+    /// A number.
+    Number,
+    /// A slice that is read.
+    Bytes,
+    /// A slice that is read, of which a part stands in the log if it is a message.
+    Frame,
+    /// A buffer that is written: how long it is.
+    Room,
+}
+
+/// A call, as it stands in a log: its name, and its parameters in their order.
+#[derive(Debug)]
+pub(crate) struct CallForm {
+    pub(crate) name: &'static str,
+    pub(crate) parameters: &'static [(&'static str, Form)],
+}
+
+const fn call(name: &'static str, parameters: &'static [(&'static str, Form)]) -> CallForm {
+    CallForm { name, parameters }
+}
+
+/// The calls in the order of their numbers, which begin at 1.
+#[rustfmt::skip]
 pub(crate) const CALLS: [CallForm; 31] = [
-    CallForm {
-        name: "init",
-        parameters: &[
-            Parameter { name: "allow_private_ips", form: Flag },
-            Parameter { name: "allow_dns", form: Flag },
-            Parameter { name: "max_sets", form: Number },
-            Parameter { name: "dial_fail_limit", form: Number },
-            Parameter { name: "cooldown_seconds", form: Number },
-            Parameter { name: "cooldown_nanos", form: Number },
-            Parameter { name: "block_seconds", form: Number },
-            Parameter { name: "block_nanos", form: Number },
-            Parameter { name: "max_bit_vec", form: Number },
-            Parameter { name: "max_peers", form: Number },
-            Parameter { name: "max_data_length", form: Number },
-            Parameter { name: "peer_gossip_max_count", form: Number },
-            Parameter { name: "bound_seconds", form: Number },
-            Parameter { name: "bound_nanos", form: Number },
-            Parameter { name: "namespace", form: Bytes },
-            Parameter { name: "bootstrappers", form: Bytes },
-            Parameter { name: "myself", form: Bytes },
-        ],
-    },
-    CallForm {
-        name: "track",
-        parameters: &[
-            Parameter { name: "index", form: Number },
-            Parameter { name: "primary", form: Bytes },
-            Parameter { name: "secondary", form: Bytes },
-            Parameter { name: "torn", form: Room },
-        ],
-    },
-    CallForm {
-        name: "track_room",
-        parameters: &[],
-    },
-    CallForm {
-        name: "dial",
-        parameters: &[
-            Parameter { name: "peer", form: Bytes },
-            Parameter { name: "seconds", form: Number },
-            Parameter { name: "nanos", form: Number },
-            Parameter { name: "draw_seconds", form: Number },
-            Parameter { name: "draw_nanos", form: Number },
-        ],
-    },
-    CallForm {
-        name: "listen",
-        parameters: &[
-            Parameter { name: "peer", form: Bytes },
-            Parameter { name: "seconds", form: Number },
-            Parameter { name: "nanos", form: Number },
-            Parameter { name: "draw_seconds", form: Number },
-            Parameter { name: "draw_nanos", form: Number },
-        ],
-    },
-    CallForm {
-        name: "reservation",
-        parameters: &[
-            Parameter { name: "peer", form: Bytes },
-            Parameter { name: "out", form: Room },
-        ],
-    },
-    CallForm {
-        name: "connect",
-        parameters: &[
-            Parameter { name: "peer", form: Bytes },
-            Parameter { name: "dialer", form: Flag },
-        ],
-    },
-    CallForm {
-        name: "release",
-        parameters: &[
-            Parameter { name: "peer", form: Bytes },
-        ],
-    },
-    CallForm {
-        name: "update_peers",
-        parameters: &[
-            Parameter { name: "infos", form: Bytes },
-        ],
-    },
-    CallForm {
-        name: "block",
-        parameters: &[
-            Parameter { name: "peer", form: Bytes },
-            Parameter { name: "seconds", form: Number },
-            Parameter { name: "nanos", form: Number },
-        ],
-    },
-    CallForm {
-        name: "unblock_expired",
-        parameters: &[
-            Parameter { name: "seconds", form: Number },
-            Parameter { name: "nanos", form: Number },
-        ],
-    },
-    CallForm {
-        name: "forget_cooled",
-        parameters: &[
-            Parameter { name: "seconds", form: Number },
-            Parameter { name: "nanos", form: Number },
-        ],
-    },
-    CallForm {
-        name: "next_unblock",
-        parameters: &[
-            Parameter { name: "out", form: Room },
-        ],
-    },
-    CallForm {
-        name: "blocked_peers",
-        parameters: &[
-            Parameter { name: "seconds", form: Number },
-            Parameter { name: "nanos", form: Number },
-            Parameter { name: "out", form: Room },
-        ],
-    },
-    CallForm {
-        name: "status",
-        parameters: &[
-            Parameter { name: "peer", form: Bytes },
-        ],
-    },
-    CallForm {
-        name: "get_peer_set",
-        parameters: &[
-            Parameter { name: "index", form: Number },
-            Parameter { name: "out", form: Room },
-        ],
-    },
-    CallForm {
-        name: "latest_set_index",
-        parameters: &[
-            Parameter { name: "out", form: Room },
-        ],
-    },
-    CallForm {
-        name: "latest_update",
-        parameters: &[
-            Parameter { name: "out", form: Room },
-        ],
-    },
-    CallForm {
-        name: "all",
-        parameters: &[
-            Parameter { name: "out", form: Room },
-        ],
-    },
-    CallForm {
-        name: "info",
-        parameters: &[
-            Parameter { name: "peer", form: Bytes },
-            Parameter { name: "out", form: Room },
-        ],
-    },
-    CallForm {
-        name: "infos",
-        parameters: &[
-            Parameter { name: "bits", form: Bytes },
-            Parameter { name: "seconds", form: Number },
-            Parameter { name: "nanos", form: Number },
-            Parameter { name: "out", form: Room },
-        ],
-    },
-    CallForm {
-        name: "get_random_bit_vec",
-        parameters: &[
-            Parameter { name: "place", form: Number },
-            Parameter { name: "out", form: Room },
-        ],
-    },
-    CallForm {
-        name: "eligible",
-        parameters: &[
-            Parameter { name: "peer", form: Bytes },
-            Parameter { name: "seconds", form: Number },
-            Parameter { name: "nanos", form: Number },
-        ],
-    },
-    CallForm {
-        name: "acceptable",
-        parameters: &[
-            Parameter { name: "peer", form: Bytes },
-            Parameter { name: "seconds", form: Number },
-            Parameter { name: "nanos", form: Number },
-        ],
-    },
-    CallForm {
-        name: "dialable",
-        parameters: &[
-            Parameter { name: "seconds", form: Number },
-            Parameter { name: "nanos", form: Number },
-            Parameter { name: "out", form: Room },
-        ],
-    },
-    CallForm {
-        name: "retained",
-        parameters: &[],
-    },
-    CallForm {
-        name: "next_cooled",
-        parameters: &[
-            Parameter { name: "out", form: Room },
-        ],
-    },
-    CallForm {
-        name: "tracked",
-        parameters: &[],
-    },
-    CallForm {
-        name: "ask",
-        parameters: &[
-            Parameter { name: "place", form: Number },
-            Parameter { name: "out", form: Room },
-        ],
-    },
-    CallForm {
-        name: "check",
-        parameters: &[
-            Parameter { name: "frame", form: Bytes },
-            Parameter { name: "seconds", form: Number },
-            Parameter { name: "nanos", form: Number },
-            Parameter { name: "out", form: Room },
-        ],
-    },
-    CallForm {
-        name: "receive",
-        parameters: &[
-            Parameter { name: "frame", form: Bytes },
-            Parameter { name: "seconds", form: Number },
-            Parameter { name: "nanos", form: Number },
-            Parameter { name: "verdicts", form: Bytes },
-            Parameter { name: "out", form: Room },
-        ],
-    },
+    call("init", &[
+        ("allow_private_ips", Flag), ("allow_dns", Flag), ("max_sets", Number),
+        ("dial_fail_limit", Number), ("cooldown_seconds", Number), ("cooldown_nanos", Small),
+        ("block_seconds", Number), ("block_nanos", Small), ("max_bit_vec", Number),
+        ("max_peers", Number), ("max_data_length", Number), ("peer_gossip_max_count", Number),
+        ("bound_seconds", Number), ("bound_nanos", Small), ("namespace", Bytes),
+        ("bootstrappers", Bytes), ("myself", Bytes),
+    ]),
+    call("track", &[("index", Number), ("primary", Bytes), ("secondary", Bytes), ("torn", Room)]),
+    call("track_room", &[]),
+    call("dial", &[
+        ("peer", Bytes), ("seconds", Number), ("nanos", Small), ("draw_seconds", Number),
+        ("draw_nanos", Small),
+    ]),
+    call("listen", &[
+        ("peer", Bytes), ("seconds", Number), ("nanos", Small), ("draw_seconds", Number),
+        ("draw_nanos", Small),
+    ]),
+    call("reservation", &[("peer", Bytes), ("out", Room)]),
+    call("connect", &[("peer", Bytes), ("dialer", Flag)]),
+    call("release", &[("peer", Bytes)]),
+    call("update_peers", &[("infos", Bytes)]),
+    call("block", &[("peer", Bytes), ("seconds", Number), ("nanos", Small)]),
+    call("unblock_expired", &[("seconds", Number), ("nanos", Small)]),
+    call("forget_cooled", &[("seconds", Number), ("nanos", Small)]),
+    call("next_unblock", &[("out", Room)]),
+    call("blocked_peers", &[("seconds", Number), ("nanos", Small), ("out", Room)]),
+    call("status", &[("peer", Bytes)]),
+    call("get_peer_set", &[("index", Number), ("out", Room)]),
+    call("latest_set_index", &[("out", Room)]),
+    call("latest_update", &[("out", Room)]),
+    call("all", &[("out", Room)]),
+    call("info", &[("peer", Bytes), ("out", Room)]),
+    call("infos", &[("bits", Bytes), ("seconds", Number), ("nanos", Small), ("out", Room)]),
+    call("get_random_bit_vec", &[("place", Number), ("out", Room)]),
+    call("eligible", &[("peer", Bytes), ("seconds", Number), ("nanos", Small)]),
+    call("acceptable", &[("peer", Bytes), ("seconds", Number), ("nanos", Small)]),
+    call("dialable", &[("seconds", Number), ("nanos", Small), ("out", Room)]),
+    call("retained", &[]),
+    call("next_cooled", &[("out", Room)]),
+    call("tracked", &[]),
+    call("ask", &[("place", Number), ("out", Room)]),
+    call("check", &[("frame", Frame), ("seconds", Number), ("nanos", Small), ("out", Room)]),
+    call("receive", &[
+        ("frame", Frame), ("seconds", Number), ("nanos", Small), ("verdicts", Bytes), ("out", Room),
+    ]),
 ];

@@ -1,6 +1,6 @@
 //! What is read of a log.
 
-use super::calls::CALLS;
+use super::calls::{CALLS, CallForm, Form};
 use super::checksum::Checksum;
 use super::{
     Answer, FULL, LAST_RECORD, MAGIC, MESSAGE_HEAD, REPEATED, ReplayError, SHORTENED, VERSION,
@@ -11,33 +11,6 @@ use crate::error::CodecError;
 use crate::memory::zeros;
 use std::borrow::Cow;
 use std::fmt;
-
-/// What a parameter of a call has in a log.
-#[derive(Clone, Copy, Debug, PartialEq, Eq)]
-pub(crate) enum Form {
-    /// A bool, as the number 0 or 1.
-    Flag,
-    /// A number.
-    Number,
-    /// A slice that is read.
-    Bytes,
-    /// A buffer that is written: how long it is.
-    Room,
-}
-
-/// A parameter of a call.
-#[derive(Debug)]
-pub(crate) struct Parameter {
-    pub(crate) name: &'static str,
-    pub(crate) form: Form,
-}
-
-/// A call, as it stands in a log.
-#[derive(Debug)]
-pub(crate) struct CallForm {
-    pub(crate) name: &'static str,
-    pub(crate) parameters: &'static [Parameter],
-}
 
 /// An argument of a recorded call.
 #[derive(Clone, Copy, PartialEq, Eq)]
@@ -135,6 +108,11 @@ pub struct Call<'a> {
 }
 
 impl<'a> Call<'a> {
+    /// The number of the call, as in `tools/exports/session.table` of the repository.
+    pub(crate) fn number(&self) -> u64 {
+        u64::from(self.number)
+    }
+
     /// The name of the call, as in `docs/C.md` of the repository.
     pub fn name(&self) -> &'static str {
         self.form().name
@@ -148,7 +126,7 @@ impl<'a> Call<'a> {
     /// The argument of a parameter, if there is one of this name.
     pub fn argument(&self, name: &str) -> Option<Argument<'a>> {
         let mut parameters = self.form().parameters.iter();
-        let place = parameters.position(|parameter| parameter.name == name)?;
+        let place = parameters.position(|(parameter, _)| *parameter == name)?;
         Some(self.arguments[place])
     }
 
@@ -161,7 +139,7 @@ impl<'a> Call<'a> {
         rooms.next()
     }
 
-    fn form(&self) -> &'static CallForm {
+    pub(super) fn form(&self) -> &'static CallForm {
         &CALLS[usize::from(self.number) - 1]
     }
 }
@@ -170,9 +148,9 @@ impl fmt::Debug for Call<'_> {
     fn fmt(&self, f: &mut fmt::Formatter<'_>) -> fmt::Result {
         write!(f, "record {}, {}(", self.place, self.name())?;
         let parameters = self.form().parameters.iter().zip(&self.arguments);
-        for (place, (parameter, argument)) in parameters.enumerate() {
+        for (place, ((name, _), argument)) in parameters.enumerate() {
             let comma = if place == 0 { "" } else { ", " };
-            write!(f, "{comma}{}: {argument:?}", parameter.name)?;
+            write!(f, "{comma}{name}: {argument:?}")?;
         }
         write!(f, ") -> {:?}", self.answer)
     }
@@ -403,11 +381,11 @@ impl<'a> Calls<'a> {
         let form = form.ok_or(CodecError::InvalidLength(u64::from(number)))?;
         let mut first = None;
         let mut arguments = Vec::new();
-        for parameter in form.parameters {
-            arguments.push(match parameter.form {
-                Form::Flag | Form::Number => Argument::Number(record.number()?),
+        for (_, form) in form.parameters {
+            arguments.push(match form {
+                Form::Flag | Form::Small | Form::Number => Argument::Number(record.number()?),
                 Form::Room => Argument::Room(record.number()?),
-                Form::Bytes => {
+                Form::Bytes | Form::Frame => {
                     let slice = self.slice(record, first.is_none())?;
                     first.get_or_insert(match slice {
                         Argument::Bytes(bytes) => bytes,

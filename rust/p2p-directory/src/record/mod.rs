@@ -12,8 +12,7 @@
 //! A log has the keys and addresses that the calls had. Of a message it has the first bytes, the
 //! length and a checksum. It has no secret key, since the library is given none.
 
-#[rustfmt::skip]
-pub(crate) mod calls;
+mod calls;
 mod checksum;
 mod log;
 mod replay;
@@ -25,9 +24,10 @@ pub use replay::{Answer, MOST_ROOM, ReplayError};
 use crate::data::DATA_PREFIX;
 use crate::memory::give_back_large;
 use crate::sizes::MAX_PAYLOAD_OVERHEAD;
+use calls::{CALLS, CallForm, Form};
 use checksum::Checksum;
 pub use p2p_directory_sys::ARCHIVE;
-use p2p_directory_sys::BAD_VERDICTS;
+use p2p_directory_sys::BAD_CALL;
 use std::fmt;
 use std::io::{self, ErrorKind, Write};
 use std::mem;
@@ -116,7 +116,7 @@ pub struct Recorder {
 
 /// A record, while its call is written to it.
 #[derive(Default)]
-pub(crate) struct Entry {
+struct Entry {
     bytes: Vec<u8>,
     // The first slice of the call before, if it is long enough to be told by a word.
     last: Vec<u8>,
@@ -168,23 +168,25 @@ impl Recorder {
         self.write_entry();
     }
 
-    /// Records a call, with its answer and the bytes that it wrote to `out`.
-    #[inline]
+    /// Records the call of a number, with its answer and the bytes that it wrote to `out`.
     pub(crate) fn call(
         &mut self,
-        number: u8,
+        number: u64,
+        numbers: &[u64],
+        bytes: [&[u8]; 3],
         answer: u64,
         out: &[u8],
-        arguments: impl FnOnce(&mut Entry),
     ) {
-        if self.recording != Recording::Going {
+        // What is no call to the library stands in no log: it changed nothing.
+        if self.recording != Recording::Going || answer == BAD_CALL {
             return;
         }
+        let form = &CALLS[number as usize - 1];
         self.entry.clear();
         // The length comes here, when it is known.
         self.entry.raw(&[0; 4]);
-        self.entry.raw(&[number]);
-        arguments(&mut self.entry);
+        self.entry.raw(&[number as u8]);
+        self.entry.arguments(form, numbers, bytes, out.len());
         self.entry.number(answer);
         self.entry.raw(written(answer, out));
         self.entry.set_length();
@@ -289,10 +291,13 @@ impl Drop for Recorder {
 /// the buffer.
 pub(crate) fn written(answer: u64, out: &[u8]) -> &[u8] {
     match usize::try_from(answer) {
-        Ok(length) if answer < BAD_VERDICTS && length <= out.len() => &out[..length],
+        Ok(length) if answer < BAD_CALL && length <= out.len() => &out[..length],
         _ => &[],
     }
 }
+
+/// The reason why there is an argument for each parameter: the library took the call.
+const TAKEN: &str = "as many as the call takes";
 
 /// The shortest slice that is told by a word if it comes again.
 const SHORTEST_REPEATED: usize = 256;
@@ -304,13 +309,28 @@ impl Entry {
         self.is_short = false;
     }
 
+    // Appends the arguments of a call, in the order of its parameters.
+    fn arguments(&mut self, call: &CallForm, numbers: &[u64], bytes: [&[u8]; 3], room: usize) {
+        let (mut numbers, mut bytes) = (numbers.iter(), bytes.into_iter());
+        for (_, form) in call.parameters {
+            match form {
+                Form::Flag | Form::Small | Form::Number => {
+                    self.number(*numbers.next().expect(TAKEN))
+                }
+                Form::Bytes => self.bytes(bytes.next().expect(TAKEN)),
+                Form::Frame => self.frame(bytes.next().expect(TAKEN)),
+                Form::Room => self.number(room as u64),
+            }
+        }
+    }
+
     /// Appends a number, or how long a buffer is.
-    pub(crate) fn number(&mut self, number: u64) {
+    fn number(&mut self, number: u64) {
         self.raw(&number.to_be_bytes());
     }
 
     /// Appends a slice, behind its length.
-    pub(crate) fn bytes(&mut self, bytes: &[u8]) {
+    fn bytes(&mut self, bytes: &[u8]) {
         let is_first = !mem::replace(&mut self.has_slice, true);
         let is_long = bytes.len() >= SHORTEST_REPEATED;
         if is_first && is_long && bytes == self.last {
@@ -329,7 +349,7 @@ impl Entry {
 
     /// Appends a frame. If it is a message, its first bytes, its length and the checksum of the
     /// other bytes stand for it: a library answers by the header and the length alone.
-    pub(crate) fn frame(&mut self, frame: &[u8]) {
+    fn frame(&mut self, frame: &[u8]) {
         let (head, rest) = match frame.split_at_checked(MESSAGE_HEAD) {
             Some(parts) if frame[0] == DATA_PREFIX => parts,
             _ => return self.bytes(frame),

@@ -1,8 +1,9 @@
 //! Arguments of a recorded call, and its answer.
 
+use super::calls::Form;
 use super::log::{Argument, Call, room};
 use super::written;
-use p2p_directory_sys::BAD_VERDICTS;
+use p2p_directory_sys::BAD_CALL;
 use std::borrow::Cow;
 use std::fmt;
 
@@ -40,7 +41,7 @@ impl Answer {
 impl fmt::Debug for Answer {
     fn fmt(&self, f: &mut fmt::Formatter<'_>) -> fmt::Result {
         match self.number {
-            number @ BAD_VERDICTS.. => write!(f, "{number:#x}")?,
+            number @ BAD_CALL.. => write!(f, "{number:#x}")?,
             number => write!(f, "{number}")?,
         }
         if self.bytes.is_empty() {
@@ -88,49 +89,35 @@ impl fmt::Display for ReplayError {
 
 impl std::error::Error for ReplayError {}
 
-/// The arguments of a call, which are taken in their order.
+/// What a call takes.
 pub(crate) struct Arguments<'a> {
-    left: std::vec::IntoIter<Argument<'a>>,
-    // How many bytes the call may ask for.
-    most: u64,
+    pub(crate) numbers: Vec<u64>,
+    pub(crate) bytes: [Cow<'a, [u8]>; 3],
+    pub(crate) out: Vec<u8>,
 }
 
 impl<'a> Arguments<'a> {
-    pub(crate) fn of(call: &Call<'a>, most: u64) -> Arguments<'a> {
-        Arguments {
-            left: call.arguments().to_vec().into_iter(),
-            most,
+    /// The arguments of a recorded call, which may ask for at most so many bytes.
+    pub(crate) fn of(call: &Call<'a>, most: u64) -> Result<Arguments<'a>, ReplayError> {
+        const SMALL: u64 = u32::MAX as u64;
+        let (mut numbers, mut bytes) = (Vec::new(), <[Cow<'a, [u8]>; 3]>::default());
+        let (mut slices, mut out) = (bytes.iter_mut(), Vec::new());
+        for ((_, form), argument) in call.form().parameters.iter().zip(call.arguments()) {
+            match (form, argument) {
+                (Form::Flag, Argument::Number(number @ 0..=1))
+                | (Form::Small, Argument::Number(number @ 0..=SMALL))
+                | (Form::Number, Argument::Number(number)) => numbers.push(*number),
+                (Form::Bytes | Form::Frame, slice) => {
+                    *slices.next().ok_or(ReplayError::Argument)? = slice.bytes(most)?;
+                }
+                (Form::Room, Argument::Room(length)) => out = room(*length, most)?,
+                _ => return Err(ReplayError::Argument),
+            }
         }
-    }
-
-    pub(crate) fn number(&mut self) -> Result<u64, ReplayError> {
-        match self.left.next() {
-            Some(Argument::Number(number)) => Ok(number),
-            _ => Err(ReplayError::Argument),
-        }
-    }
-
-    pub(crate) fn small(&mut self) -> Result<u32, ReplayError> {
-        u32::try_from(self.number()?).map_err(|_| ReplayError::Argument)
-    }
-
-    pub(crate) fn flag(&mut self) -> Result<bool, ReplayError> {
-        match self.number()? {
-            0 => Ok(false),
-            1 => Ok(true),
-            _ => Err(ReplayError::Argument),
-        }
-    }
-
-    pub(crate) fn bytes(&mut self) -> Result<Cow<'a, [u8]>, ReplayError> {
-        let argument = self.left.next().ok_or(ReplayError::Argument)?;
-        argument.bytes(self.most)
-    }
-
-    pub(crate) fn room(&mut self) -> Result<Vec<u8>, ReplayError> {
-        match self.left.next() {
-            Some(Argument::Room(length)) => room(length, self.most),
-            _ => Err(ReplayError::Argument),
-        }
+        Ok(Arguments {
+            numbers,
+            bytes,
+            out,
+        })
     }
 }

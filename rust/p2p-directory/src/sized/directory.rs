@@ -1,10 +1,9 @@
 //! The directory of peers, and what its calls return.
 
-use super::Session;
 use super::info::{Info, try_write_infos};
 use super::pair::Pair;
-use super::session::Calls;
 use super::sets::{OrderedSet, Tracked, TrackedPeers};
+use super::{Calls, Session};
 use crate::answer::{Kind, OWN, Room, answered, certain, is_certain, is_done, is_true, unknown};
 use crate::codec::{ReadError, Reader};
 use crate::config::{Config, Limits, is_supported};
@@ -212,7 +211,7 @@ impl<P: Pair> Directory<P> {
         recorder: Recorder,
     ) -> Result<Directory<P>, SetupError> {
         let session = new_session::<P>()?;
-        session.record(recorder);
+        session.caller().record(recorder);
         Directory::with_limits(session, bootstrappers, myself, &cfg, Limits::none())
     }
 
@@ -624,7 +623,7 @@ impl<P: Pair> Directory<P> {
     /// ```
     #[cfg(feature = "record")]
     pub fn recording(&self) -> Option<Recording> {
-        self.session().recording()
+        self.session().caller().recording()
     }
 
     /// Flushes what the recorder writes to, so that the log has each call that was made. A failure
@@ -638,7 +637,7 @@ impl<P: Pair> Directory<P> {
     /// ```
     #[cfg(feature = "record")]
     pub fn flush_record(&self) {
-        self.session().flush_record();
+        self.session().caller().flush_record();
     }
 
     /// Ends the recording with the record that says that the log is whole, and flushes it. Later calls
@@ -659,7 +658,7 @@ impl<P: Pair> Directory<P> {
     /// ```
     #[cfg(feature = "record")]
     pub fn end_record(&self) {
-        self.session().end_record();
+        self.session().caller().end_record();
     }
 
     // The session, after each dropped reservation is released.
@@ -735,7 +734,7 @@ impl<P: Pair> fmt::Debug for Directory<P> {
 /// A session with no node, if the processor has what the library needs.
 pub(super) fn new_session<P: Pair>() -> Result<Session<P>, SetupError> {
     match is_supported() {
-        true => Ok(Session::<P>::new().ok_or(OutOfMemory)?),
+        true => Ok(Session::<P>::of(Calls::<P>::new().ok_or(OutOfMemory)?)),
         false => Err(SetupError::Processor),
     }
 }

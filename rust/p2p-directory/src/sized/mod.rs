@@ -11,10 +11,9 @@ mod node;
 mod pair;
 mod payload;
 #[cfg(feature = "record")]
-#[rustfmt::skip]
+mod recorded;
+#[cfg(feature = "record")]
 mod replay;
-#[rustfmt::skip]
-mod session;
 mod sets;
 #[cfg(any(test, feature = "testing"))]
 pub mod testing;
@@ -34,10 +33,13 @@ pub use sets::{OrderedSet, Tracked, TrackedPeers};
 pub use verification::{Judged, Question, Questions, QuestionsIter, ReceiveError};
 pub use verifier::InfoVerifier;
 
-/// What makes the calls of a directory: a session of the library.
+/// What makes the calls of a directory: the library.
 #[cfg(not(feature = "record"))]
-type Session<P> = <P as Sealed>::Calls;
+type Calls<P> = p2p_directory_sys::sized::Library<<P as Sealed>::Exports>;
 
-/// What makes the calls of a directory: a session of the library, whose calls may be recorded.
+/// What makes the calls of a directory: the library, and they may be recorded.
 #[cfg(feature = "record")]
-type Session<P> = session::Recorded<P>;
+type Calls<P> = recorded::Recorded<P>;
+
+/// The session of a directory.
+type Session<P> = p2p_directory_sys::sized::Session<Calls<P>>;

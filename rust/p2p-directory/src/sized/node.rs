@@ -5,7 +5,6 @@ use super::directory::{Directory, new_session};
 use super::info::Info;
 use super::pair::{Pair, Private};
 use super::payload::{Payload, greeting_of, reply_of};
-use super::session::Calls;
 use super::sets::{Tracked, TrackedPeers};
 use super::verification::{
     Judged, NOTHING_TOLD, Question, Questions, ReceiveError, read_told, write_verdicts,
@@ -242,7 +241,7 @@ impl<P: Pair> Node<P> {
     #[cfg(feature = "record")]
     pub fn new_recorded(setup: &Setup<P>, recorder: Recorder) -> Result<Node<P>, SetupError> {
         let session = new_session::<P>()?;
-        session.record(recorder);
+        session.caller().record(recorder);
         Node::in_session(session, setup)
     }
 

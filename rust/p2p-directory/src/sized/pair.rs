@@ -1,7 +1,6 @@
 //! What the types of the crate are generic in.
 
 use super::directory::Spare;
-use super::session::Calls;
 use crate::error::ParseError;
 use std::fmt::{Debug, Display};
 use std::hash::Hash;
@@ -102,8 +101,8 @@ pub trait Private: Sized {
 
 /// What only this crate can implement and use of a pair.
 pub trait Sealed: Sized {
-    /// The calls of the library.
-    type Calls: Calls;
+    /// What the library exports for these sizes.
+    type Exports: p2p_directory_sys::sized::Pair;
 
     /// The least byte with which a key begins.
     const LEAST_FIRST: u8;

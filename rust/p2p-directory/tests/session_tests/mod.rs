@@ -1,6 +1,7 @@
 //! The exports of the library, as `docs/C.md` of the repository describes them: each is called,
 //! with enough memory, and its result is compared.
 
+mod bad_calls;
 mod calls;
 mod frames;
 mod given;

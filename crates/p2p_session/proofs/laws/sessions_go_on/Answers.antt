@@ -80,7 +80,7 @@ module _ {C S : Type 0} (k : Scheme C S) where
 
   requests : (asked : Option (Request C S)) (out out2 : List ℕ) (before after : Session C S) (n : ℕ) →
       ServesRequest k asked out out2 before after n → Goes k before.node after.node
-  requests None out out2 before after n h = unchanged before after h.1
+  requests None out out2 before after n h = unchanged before after h.0
   requests (Some (Numbered given)) out out2 before after n h = serves given [] [] before.node after.node n h.1
   requests (Some (Written given)) out out2 before after n h = serves given out out2 before.node after.node n h
   requests (Some (SetOf index primary secondary)) out out2 before after n (inl h) = unchanged before after h.1

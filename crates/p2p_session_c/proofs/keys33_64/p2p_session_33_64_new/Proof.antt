@@ -1,5 +1,30 @@
 -- What `new` returns is written into the room at the pointer.
-use Rattle.p2p_session_c.proofs.Steps.{◌≡◌, List, [], ◌∷◌, ◌++◌, refl, sym, ap, ◌∙◌, proved_at, handle_tells, full_share, id⊢, sep, sem, ftrue, Val, vunit, vptr, fact, tables, ‵, raw, prop, at_ret, ◌⊛◌, some, later, ◌$◌, ◌∵◌, !, qed, done, drop, move, use1, use2, split, join, fsplit, feq_i, feq_l, pick, await, rewrite, regoal, suffices, frame, group, show, enter, of_opd, unit_lit, stop, init, first, blocks, assigns_last, exec, no_more, and_then, returns, env, alloc_all, pass_all, free_all, look_at, get, through, sets, lands_as, yes, shows, Is, Ptr, RawPtr, block_ptr, ptr_val, lies_at, room_at, in_a_block, owns, part_in, plain, nothing, heard, peeks, calls_at, lasts, Lasts, triple_of, Stays, walk_of, says, stay_dropped, Goes-dropped, ends_at, framed, WpFn}
+use Rattle.std.proofs.Common.{◌≡◌, List, [], ◌∷◌, ◌++◌, refl, sym, ap, ◌∙◌}
+use Rattle.std.proofs.raw_atomic.Walks.{proved_at}
+use Rattle.std.proofs.alloc.Calls.{handle_tells}
+use base.Fraction.{full_share}
+use base.Logic.{id⊢, sep}
+use types.Logic.{sem}
+use base.Fml.{ftrue}
+use mir.Val.{Val, vunit, vptr}
+use contract.Monad.{fact}
+use contract.Running.{tables}
+use types.Kit.{‵, raw, prop, at_ret, ◌⊛◌, some, later, ◌$◌, ◌∵◌, !, qed, done, drop, move, use1, use2, split, join, fsplit, feq_i, feq_l, pick, await, rewrite, regoal, suffices, frame, group, show}
+use types.Run.{enter, of_opd, unit_lit, stop, init, first, blocks, assigns_last, exec, no_more, and_then, returns}
+use types.ByLocal.{env, alloc_all, pass_all, free_all, look_at, get, through, sets, lands_as}
+use denote.Exit.{yes}
+use denote.Laws.{shows, Is}
+use denote.RawPtr.{Ptr, RawPtr, block_ptr, ptr_val, lies_at, room_at, in_a_block}
+use denote.RattleType.{owns}
+use borrow.Table.OneValue.{part_in}
+use denote.Signature.{plain}
+use denote.Steps.{nothing, heard, peeks}
+use denote.Triple.Call.{calls_at}
+use denote.Triple.Clauses.{lasts, Lasts}
+use denote.Triple.Spec.{triple_of}
+use denote.Triple.Walked.{Stays, walk_of, says, stay_dropped, Goes-dropped, ends_at}
+use denote.Triple.Table.{framed}
+use prog.Wp.{WpFn}
 use Rattle.std.specs.contracts.alloc.Global.{the_row as A}
 use Rattle.std.proofs.alloc.Global.TheLaws as alloc_laws
 use Rattle.std.specs.contracts.impls.GlobalAllocator.TheImpl as I

@@ -1,5 +1,30 @@
 -- The value is read out of its place and ended, and its place is room again.
-use Rattle.p2p_session_c.proofs.Steps.{◌≡◌, ℕ, List, [], ◌∷◌, ◌++◌, refl, sym, ap, ◌∙◌, proved_at, handle_tells, full_share, id⊢, sem, ftrue, fat, froom, Val, vunit, vptr, tables, ‵, raw, prop, at_ret, ◌⊛◌, some, later, ◌$◌, ◌∵◌, !, qed, done, drop, move, use1, use2, split, join, fsplit, feq_i, feq_l, pick, await, rewrite, regoal, suffices, group, enter, of_opd, unit_lit, stop, load, look, first, blocks, exec, no_more, and_then, returns, env, alloc_all, pass_all, free_all, look_at, get, through, sets, sets_last, lands_as, yes, shows, Is, Ptr, RawPtr, block_ptr, ptr_val, lies_at, room_at, in_a_block, owns, part_out, plain, nothing, only, peeks, calls_at, lasts, Lasts, triple_of, Stays, walk_of, stay_dropped, Goes-dropped, ends_at, framed, unit, WpFn}
+use Rattle.std.proofs.Common.{◌≡◌, ℕ, List, [], ◌∷◌, ◌++◌, refl, sym, ap, ◌∙◌}
+use Rattle.std.proofs.raw_atomic.Walks.{proved_at}
+use Rattle.std.proofs.alloc.Calls.{handle_tells}
+use base.Fraction.{full_share}
+use base.Logic.{id⊢}
+use types.Logic.{sem}
+use base.Fml.{ftrue, fat, froom}
+use mir.Val.{Val, vunit, vptr}
+use contract.Running.{tables}
+use types.Kit.{‵, raw, prop, at_ret, ◌⊛◌, some, later, ◌$◌, ◌∵◌, !, qed, done, drop, move, use1, use2, split, join, fsplit, feq_i, feq_l, pick, await, rewrite, regoal, suffices, group}
+use types.Run.{enter, of_opd, unit_lit, stop, load, look, first, blocks, exec, no_more, and_then, returns}
+use types.ByLocal.{env, alloc_all, pass_all, free_all, look_at, get, through, sets, sets_last, lands_as}
+use denote.Exit.{yes}
+use denote.Laws.{shows, Is}
+use denote.RawPtr.{Ptr, RawPtr, block_ptr, ptr_val, lies_at, room_at, in_a_block}
+use denote.RattleType.{owns}
+use borrow.Table.OneValue.{part_out}
+use denote.Signature.{plain}
+use denote.Steps.{nothing, only, peeks}
+use denote.Triple.Call.{calls_at}
+use denote.Triple.Clauses.{lasts, Lasts}
+use denote.Triple.Spec.{triple_of}
+use denote.Triple.Walked.{Stays, walk_of, stay_dropped, Goes-dropped, ends_at}
+use denote.Triple.Table.{framed}
+use denote.Builtin.{unit}
+use prog.Wp.{WpFn}
 use mir.Syntax.{Ty}
 use denote.Memory.{lone}
 use Rattle.std.specs.contracts.alloc.Global.{the_row as A}

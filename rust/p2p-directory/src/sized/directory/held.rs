@@ -3,7 +3,6 @@
 
 use super::super::Session;
 use super::super::pair::Pair;
-use super::super::session::Calls;
 use crate::answer::{is_true, unknown};
 use crate::error::OutOfMemory;
 use std::cell::Cell;

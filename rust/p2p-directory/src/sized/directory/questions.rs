@@ -3,7 +3,6 @@
 use super::super::Session;
 use super::super::info::{Info, read_infos};
 use super::super::pair::Pair;
-use super::super::session::Calls;
 use super::super::sets::{OrderedSet, TrackedPeers, read_keys};
 use super::{Dialable, Directory, PeerSetUpdate};
 use crate::answer::{Kind, OWN, certain, is_certain, unknown};
