@@ -9,8 +9,7 @@
 # each call answers in the forms of tools/exports/forms.txt. It sees that the compiler refuses a session of one pair to the
 # calls of another, and that no host links that was compiled for another interface.
 #
-# usage: tools/host_c.sh [FOLDER], the folder with libp2p_session.a, or libp2p_session_c.a and liblibc_c.a, by default
-# the one in which the Rust crates carry it
+# usage: tools/host_c.sh [FOLDER], the folder with libp2p_session.a, by default the one in which the Rust crates carry it
 set -eu
 cd "$(dirname "$0")/.."
 archives=${1:-rust/p2p-directory-sys/prebuilt/x86_64-unknown-linux-gnu}

@@ -16,7 +16,6 @@ strict='-Wall -Wextra -pedantic -Werror -Wcast-qual -Wconversion -Wshadow'
 in_c="-x c $strict -Wstrict-prototypes -I include examples/session.c -x none"
 in_cpp="-x c++ $strict -I include examples/session.c -x none"
 linked="-L $archives -lp2p_session"
-[ -f "$archives/libp2p_session.a" ] || linked="-L $archives -lp2p_session_c -llibc_c"
 
 is_there() {
     command -v "$1" > /dev/null && return
