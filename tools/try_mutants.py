@@ -39,7 +39,7 @@ MOVED = re.compile(r"(?:\./)?proofs/.*(?:has no field|is not in scope|has no `|w
 
 def functions_of(edit, crate):
     """Returns the functions that an edit changes, each by as much of its path as tells it from others: its type or trait,
-    or its module. Of a constant it returns the module, and of another item nothing: then the whole crate is checked."""
+    with their module where another file has a type of that name, or its module. Of a constant it returns the module, and of another item nothing: then the whole crate is checked."""
     found = []
     for file, old, _ in pairs_of(edit):
         text = (crate / file).read_text(encoding="utf-8")
@@ -48,7 +48,10 @@ def functions_of(edit, crate):
         if names and not (before[before.rfind("\n") + 1 :] + old).startswith(" "):
             continue
         module = "::".join(it for it in Path(file).with_suffix("").parts[1:] if it not in ("lib", "main"))
-        path = "::".join(it for it in (block(before) or module, *names[-1:]) if it)
+        of = block(before)
+        if of and any(of.startswith(it) for it in types_of(crate / file) & types_elsewhere(crate, crate / file)):
+            of = f"{module}::{of}"
+        path = "::".join(it for it in (of or module, *names[-1:]) if it)
         # Else the crate's name would be taken for that of its module.
         path = f"{crate.name}::{path}" if path.startswith(f"{crate.name}::") else path
         if path not in found:
@@ -66,6 +69,16 @@ def block(before):
             name = head[3] or head[2] + (head[1] or "")
             found = name[0].upper() + name[1:]
     return found
+
+
+def types_of(file):
+    """Returns the names of the types that a file declares."""
+    return set(re.findall(r"(?m)^(?:pub )?(?:struct|enum) (\w+)", file.read_text(encoding="utf-8")))
+
+
+def types_elsewhere(crate, file):
+    """Returns the names of the types that the other files of a crate declare."""
+    return {it for other in crate.glob("src/**/*.rt") if other != file for it in types_of(other)}
 
 
 def libraries():
