@@ -1,28 +1,51 @@
 //! The types of the interface apart from the results of a directory: times, texts and conversions.
 
-use crate::pair::testing::{self, config, directory, info, key};
-use crate::pair::{
-    BeforeEpochError, BitVec, CodecError, Config, ConnectError, Data, Directory, EncodedData,
-    Hostname, Info, Ingress, KEY_SIZE, Key, MAX_PAYLOAD_OVERHEAD, Metadata, Moment, Node,
-    OrderedSet, ParseError, Payload, PayloadConfig, Received, RefusedError, SIGNATURE_SIZE,
-    SetupError, Signature, Status, TrackError, ValidateError, What, max_gossip_size, max_size,
+#[macro_use]
+mod each_pair;
+
+use p2p_directory::sized::testing::{self, config, directory, info, key};
+use p2p_directory::sized::{
+    Bytes, Directory, Info, Metadata, Node, OrderedSet, Pair, Payload, Received, max_gossip_size,
 };
-// Where another file has this one as a module, the pair of sizes is that of the other.
-#[allow(unused_imports)]
-use p2p_directory as pair;
+use p2p_directory::{
+    BeforeEpochError, BitVec, CodecError, Config, ConnectError, Data, EncodedData, Hostname,
+    Ingress, MAX_PAYLOAD_OVERHEAD, Moment, ParseError, PayloadConfig, RefusedError, SetupError,
+    Status, TrackError, ValidateError, What, max_size,
+};
 use std::cmp::Ordering;
 use std::collections::HashSet;
 use std::error::Error;
+use std::fmt::{Debug, LowerHex, UpperHex};
 use std::iter::successors;
 use std::net::{Ipv6Addr, SocketAddr, SocketAddrV6};
 use std::time::{Duration, SystemTime, UNIX_EPOCH};
+
+tests_of_each_pair! {
+    draws_are_taken_up_to_the_end_of_their_range,
+    a_directory_is_formatted_without_a_call,
+    keys_and_signatures_are_read_from_their_text,
+    texts_that_are_no_keys_are_refused,
+    sets_are_ordered_as_lists_and_given_back_as_such,
+    answers_have_a_text_of_one_line,
+    answers_are_hashed,
+    refusals_name_their_causes,
+    what_is_accepted_is_handed_on,
+    an_error_of_a_reservation_names_its_peer,
+    sizes_are_those_of_what_is_spelled,
+    what_a_transport_carries_is_told,
+    a_node_tells_its_key_and_greets,
+}
 
 const NANO: Duration = Duration::from_nanos(1);
 
 /// The first byte of the keys of `testing`, and another with which a key may begin. Keys of 33 bytes
 /// begin with 2 or 3.
-const LEAST_FIRST: u8 = if KEY_SIZE == 33 { 2 } else { 0 };
-const GREAT_FIRST: u8 = if KEY_SIZE == 33 { 3 } else { 0xcd };
+fn first_bytes<P: Pair>() -> (u8, u8) {
+    match P::KEY_SIZE {
+        33 => (2, 3),
+        _ => (0, 0xcd),
+    }
+}
 
 #[test]
 fn moments_are_times_since_the_epoch() {
@@ -52,16 +75,16 @@ fn moments_end_at_both_ends() {
 }
 
 // The dial time of a peer that was reserved at 100 s, under a cooldown of 5 ns, with this draw.
-fn dial_moment(draw: Duration) -> Option<Moment> {
+fn dial_moment<P: Pair>(draw: Duration) -> Option<Moment> {
     let cfg = Config {
         peer_connection_cooldown: 5 * NANO,
         ..config()
     };
-    let mut directory = Directory::init(&[], &info(9, 0), cfg).unwrap();
-    let peers = OrderedSet::from_iter_dedup([key(1)]);
+    let mut directory = Directory::<P>::init(&[], &info::<P>(9, 0), cfg).unwrap();
+    let peers = OrderedSet::<P>::from_iter_dedup([key::<P>(1)]);
     let _ = directory.track(0, &peers.into()).unwrap();
-    directory.update_peers(&[info(1, 1000)]).unwrap();
-    let granted = directory.listen(&key(1), Moment::from_secs(100), draw);
+    directory.update_peers(&[info::<P>(1, 1000)]).unwrap();
+    let granted = directory.listen(&key::<P>(1), Moment::from_secs(100), draw);
     directory.release(granted.unwrap().unwrap()).unwrap();
     let told = directory.dialable(Moment::from_secs(100)).unwrap();
     told.next_query_at
@@ -69,14 +92,13 @@ fn dial_moment(draw: Duration) -> Option<Moment> {
 
 // Worked example 10: a jitter is at most twice the half of the cooldown, rounded down, and may be
 // equal to it.
-#[test]
-fn draws_are_taken_up_to_the_end_of_their_range() {
+fn draws_are_taken_up_to_the_end_of_their_range<P: Pair>() {
     let after = |nanos| Some(Moment::from(Duration::new(100, nanos)));
-    assert_eq!(dial_moment(Duration::ZERO), after(5));
-    assert_eq!(dial_moment(3 * NANO), after(8));
-    assert_eq!(dial_moment(4 * NANO), after(9));
-    assert_eq!(dial_moment(5 * NANO), after(9));
-    assert_eq!(dial_moment(9 * NANO), after(9));
+    assert_eq!(dial_moment::<P>(Duration::ZERO), after(5));
+    assert_eq!(dial_moment::<P>(3 * NANO), after(8));
+    assert_eq!(dial_moment::<P>(4 * NANO), after(9));
+    assert_eq!(dial_moment::<P>(5 * NANO), after(9));
+    assert_eq!(dial_moment::<P>(9 * NANO), after(9));
 }
 
 // A draw from this word under a cooldown of so many nanoseconds.
@@ -109,36 +131,40 @@ fn a_draw_has_each_jitter_up_to_twice_the_half_of_the_cooldown() {
     assert_eq!(longest.draw(u64::MAX), Duration::from_nanos(u64::MAX));
 }
 
-#[test]
-fn a_directory_is_formatted_without_a_call() {
-    let mut directory = directory();
-    let peers = OrderedSet::from_iter_dedup([key(1), key(2)]).into();
+fn a_directory_is_formatted_without_a_call<P: Pair>() {
+    let mut directory = directory::<P>();
+    let peers = OrderedSet::<P>::from_iter_dedup([key::<P>(1), key::<P>(2)]).into();
     let _ = directory.track(0, &peers).unwrap();
-    let granted = directory.listen(&key(1), Moment::from_secs(1), Duration::ZERO);
+    let granted = directory.listen(&key::<P>(1), Moment::from_secs(1), Duration::ZERO);
     drop(granted.unwrap().unwrap());
+    let (key_size, signature_size) = (P::KEY_SIZE, P::SIGNATURE_SIZE);
     let wanted = format!(
-        "Directory {{ key_size: {KEY_SIZE}, signature_size: {SIGNATURE_SIZE}, reservations: 1, .. }}"
+        "Directory {{ key_size: {key_size}, signature_size: {signature_size}, reservations: 1, .. }}"
     );
     assert_eq!(format!("{directory:?}"), wanted);
     // The dropped reservation is still out, until the next call.
     assert_eq!(format!("{directory:?}"), wanted);
-    assert_eq!(directory.status(&key(1)), Some(Status::Inert));
+    assert_eq!(directory.status(&key::<P>(1)), Some(Status::Inert));
     let released = wanted.replace("reservations: 1", "reservations: 0");
     assert_eq!(format!("{directory:?}"), released);
 }
 
-#[test]
-fn keys_and_signatures_are_read_from_their_text() {
-    let mut bytes = [0; KEY_SIZE];
-    bytes[0] = GREAT_FIRST;
+fn keys_and_signatures_are_read_from_their_text<P: Pair>()
+where
+    P::Key: LowerHex + UpperHex + for<'b> TryFrom<&'b [u8], Error: Debug>,
+    P::Signature: UpperHex + for<'b> TryFrom<&'b [u8], Error: Debug>,
+{
+    let (_, first) = first_bytes::<P>();
+    let mut bytes = vec![0; P::KEY_SIZE];
+    bytes[0] = first;
     bytes[1] = 0xab;
-    bytes[KEY_SIZE - 1] = 0x0f;
-    let middle = "0".repeat(2 * KEY_SIZE - 6);
+    bytes[P::KEY_SIZE - 1] = 0x0f;
+    let middle = "0".repeat(2 * P::KEY_SIZE - 6);
     let (lower, upper) = (
-        format!("{GREAT_FIRST:02x}ab{middle}0f"),
-        format!("{GREAT_FIRST:02X}AB{middle}0F"),
+        format!("{first:02x}ab{middle}0f"),
+        format!("{first:02X}AB{middle}0F"),
     );
-    let key = Key::from_slice(&bytes).unwrap();
+    let key = P::Key::of_bytes(&bytes).unwrap();
     assert_eq!(key.to_string(), lower);
     assert_eq!(
         (format!("{key:x}"), format!("{key:X}")),
@@ -149,20 +175,22 @@ fn keys_and_signatures_are_read_from_their_text() {
         (format!("0x{lower}"), format!("0x{upper}"))
     );
     assert_eq!((lower.parse(), upper.parse()), (Ok(key), Ok(key)));
-    assert_eq!(Key::try_from(&bytes[..]).unwrap(), key);
-    assert!(Key::try_from(&bytes[1..]).is_err());
+    assert_eq!(P::Key::try_from(&bytes[..]).unwrap(), key);
+    assert!(P::Key::try_from(&bytes[1..]).is_err());
 
-    let signature = Signature([0x5c; SIGNATURE_SIZE]);
-    assert_eq!("5c".repeat(SIGNATURE_SIZE).parse(), Ok(signature));
-    assert_eq!(format!("{signature:X}"), "5C".repeat(SIGNATURE_SIZE));
-    assert_eq!(Signature::try_from(signature.as_ref()).unwrap(), signature);
+    let signature = P::Signature::of_bytes(&vec![0x5c; P::SIGNATURE_SIZE]).unwrap();
+    assert_eq!("5c".repeat(P::SIGNATURE_SIZE).parse(), Ok(signature));
+    assert_eq!(format!("{signature:X}"), "5C".repeat(P::SIGNATURE_SIZE));
+    assert_eq!(
+        P::Signature::try_from(signature.as_ref()).unwrap(),
+        signature
+    );
 }
 
-#[test]
-fn texts_that_are_no_keys_are_refused() {
-    let refused = |text: &str| text.parse::<Key>().unwrap_err();
+fn texts_that_are_no_keys_are_refused<P: Pair>() {
+    let refused = |text: &str| text.parse::<P::Key>().unwrap_err();
     assert_eq!(refused(""), ParseError::Length(0));
-    let digits = 2 * KEY_SIZE;
+    let digits = 2 * P::KEY_SIZE;
     for other in [digits - 1, digits + 1, digits + 2] {
         assert_eq!(refused(&"0".repeat(other)), ParseError::Length(other));
     }
@@ -232,41 +260,46 @@ fn a_hostname_is_a_text() {
     assert_eq!(Hostname::try_from("a_b"), refused);
 }
 
-#[test]
-fn sets_are_ordered_as_lists_and_given_back_as_such() {
-    let set = |numbers: &[u16]| OrderedSet::from_iter_dedup(numbers.iter().copied().map(key));
+fn sets_are_ordered_as_lists_and_given_back_as_such<P: Pair>() {
+    let set =
+        |numbers: &[u16]| OrderedSet::<P>::from_iter_dedup(numbers.iter().copied().map(key::<P>));
     let ascending = [set(&[]), set(&[1]), set(&[1, 2]), set(&[1, 3]), set(&[2])];
     assert!(ascending.is_sorted_by(|low, high| low < high));
-    assert_eq!(AsRef::<[Key]>::as_ref(&set(&[2, 1])), [key(1), key(2)]);
-    assert_eq!(Vec::from(set(&[3, 1, 3])), [key(1), key(3)]);
+    assert_eq!(
+        AsRef::<[P::Key]>::as_ref(&set(&[2, 1])),
+        [key::<P>(1), key::<P>(2)]
+    );
+    assert_eq!(Vec::from(set(&[3, 1, 3])), [key::<P>(1), key::<P>(3)]);
 }
 
-#[test]
-fn answers_have_a_text_of_one_line() {
-    let one = format!("{LEAST_FIRST:02x}{}01", "0".repeat(2 * KEY_SIZE - 4));
-    let known = info(1, 1000);
+fn answers_have_a_text_of_one_line<P: Pair>() {
+    let (first, _) = first_bytes::<P>();
+    let one = format!("{first:02x}{}01", "0".repeat(2 * P::KEY_SIZE - 4));
+    let known = info::<P>(1, 1000);
     assert_eq!(
         known.to_string(),
         format!("{one} at 1.2.3.4:8001 since 1000 ms")
     );
-    let dialer = Metadata::Dialer(key(1), known.ingress);
+    let dialer = Metadata::<P>::Dialer(key::<P>(1), known.ingress);
     assert_eq!(
         dialer.to_string(),
         format!("dialer of {one} at 1.2.3.4:8001")
     );
     assert_eq!(
-        Metadata::Listener(key(1)).to_string(),
+        Metadata::<P>::Listener(key::<P>(1)).to_string(),
         format!("listener for {one}")
     );
     let texts = [Status::Inert, Status::Reserved, Status::Active].map(|status| status.to_string());
     assert_eq!(texts, ["inert", "reserved", "active"]);
 }
 
-#[test]
-fn answers_are_hashed() {
-    let infos = [info(1, 1000), info(1, 1000), info(1, 1001)];
+fn answers_are_hashed<P: Pair>() {
+    let infos = [info::<P>(1, 1000), info::<P>(1, 1000), info::<P>(1, 1001)];
     assert_eq!(HashSet::from(infos).len(), 2);
-    let held = [Metadata::Listener(key(1)), Metadata::Listener(key(1))];
+    let held = [
+        Metadata::<P>::Listener(key::<P>(1)),
+        Metadata::Listener(key::<P>(1)),
+    ];
     assert_eq!(HashSet::from(held).len(), 1);
 }
 
@@ -299,40 +332,38 @@ fn errors_name_their_causes() {
     assert_eq!(host, ["the host is no name", "invalid hostname"]);
 }
 
-#[test]
-fn refusals_name_their_causes() {
-    let mut node = Node::new(&testing::setup(9)).unwrap();
+fn refusals_name_their_causes<P: Pair>() {
+    let mut node = Node::<P>::new(&testing::setup::<P>(9)).unwrap();
     let mut refused = |frame: &[u8]| {
         let received = node.receive(frame, Moment::EPOCH, testing::verify);
         texts(&received.accepted().unwrap_err())
     };
     let no_payload = ["the frame encodes no payload", "invalid prefix: 9"];
     assert_eq!(refused(&[9]), no_payload);
-    let of_itself = Payload::Greeting(info(9, 0)).encode();
+    let of_itself = Payload::Greeting(info::<P>(9, 0)).encode();
     let invalid = ["the infos of the frame are invalid", "received self"];
     assert_eq!(refused(&of_itself), invalid);
-    let out_of_memory = Received::Memory.accepted().unwrap_err();
+    let out_of_memory = Received::<P>::Memory.accepted().unwrap_err();
     let why = ["the frame could not be processed", "memory was refused"];
     assert_eq!(texts(&out_of_memory), why);
     assert_eq!(
         texts(&RefusedError::Malformed),
         ["the frame has another number of bits"]
     );
-    let invalid = ValidateError::Invalid(crate::pair::Error::SynchronyBound);
+    let invalid = ValidateError::Invalid(p2p_directory::Error::SynchronyBound);
     let why = ["the infos are invalid", "synchrony bound violated"];
     assert_eq!(texts(&invalid), why);
     let why = ["the infos could not be validated", "memory was refused"];
     assert_eq!(texts(&ValidateError::OutOfMemory), why);
 }
 
-#[test]
-fn what_is_accepted_is_handed_on() {
+fn what_is_accepted_is_handed_on<P: Pair>() {
     let accepted = [
-        Received::Data {
+        Received::<P>::Data {
             channel: 1,
             message: 3..5,
         },
-        Received::Greeted(key(1)),
+        Received::Greeted(key::<P>(1)),
         Received::Reply(vec![3, 0]),
         Received::Applied(2),
     ];
@@ -341,18 +372,17 @@ fn what_is_accepted_is_handed_on() {
     }
 }
 
-#[test]
-fn an_error_of_a_reservation_names_its_peer() {
-    let mut directory = directory();
-    let peers = OrderedSet::from_iter_dedup([key(1)]);
+fn an_error_of_a_reservation_names_its_peer<P: Pair>() {
+    let mut directory = directory::<P>();
+    let peers = OrderedSet::<P>::from_iter_dedup([key::<P>(1)]);
     let _ = directory.track(0, &peers.into()).unwrap();
-    let granted = directory.listen(&key(1), Moment::from_secs(1), Duration::ZERO);
-    let refused = testing::directory()
+    let granted = directory.listen(&key::<P>(1), Moment::from_secs(1), Duration::ZERO);
+    let refused = testing::directory::<P>()
         .release(granted.unwrap().unwrap())
         .unwrap_err();
     assert_eq!(
         refused.to_string(),
-        format!("the reservation of {} is of another directory", key(1))
+        format!("the reservation of {} is of another directory", key::<P>(1))
     );
 }
 
@@ -396,22 +426,21 @@ fn ingresses_are_ordered_by_kind_then_host_then_port() {
 }
 
 // An info with a name of so many bytes, and a timestamp of so many groups of seven bits.
-fn long_info(host: usize, groups: u32) -> Info {
+fn long_info<P: Pair>(host: usize, groups: u32) -> Info<P> {
     let host = [&"a".repeat(63)[..]; 4].join(".")[..host].to_owned();
     let ingress = match Hostname::new(&host) {
         Ok(host) => Ingress::Dns { host, port: 8000 },
         Err(_) => SocketAddr::from(([1, 2, 3, 4], 8000)).into(),
     };
     let timestamp = 1 << (7 * (groups - 1));
-    Info::sign(key(1), b"", ingress, timestamp, |_, _| {
-        Signature([0; SIGNATURE_SIZE])
+    Info::<P>::sign(key::<P>(1), b"", ingress, timestamp, |_, _| {
+        P::Signature::of_bytes(&vec![0; P::SIGNATURE_SIZE]).unwrap()
     })
 }
 
-#[test]
-fn sizes_are_those_of_what_is_spelled() {
+fn sizes_are_those_of_what_is_spelled<P: Pair>() {
     let infos = [(0, 1), (1, 2), (127, 9), (128, 9), (253, 10)]
-        .map(|(host, groups)| long_info(host, groups));
+        .map(|(host, groups)| long_info::<P>(host, groups));
     for info in &infos {
         assert_eq!(info.encode_size(), info.encode().len());
         assert_eq!(info.ingress.encode_size(), info.ingress.encode().len());
@@ -419,13 +448,13 @@ fn sizes_are_those_of_what_is_spelled() {
     let v6 = Ingress::from(SocketAddr::from((Ipv6Addr::LOCALHOST, 1)));
     assert_eq!(v6.encode_size(), v6.encode().len());
     let bits = |count: usize| {
-        Payload::BitVec(BitVec {
+        Payload::<P>::BitVec(BitVec {
             index: u64::MAX,
             bits: vec![true; count],
         })
     };
     let data = |channel, count| {
-        Payload::Data(Data {
+        Payload::<P>::Data(Data {
             channel,
             message: vec![0; count],
         })
@@ -447,42 +476,46 @@ fn sizes_are_those_of_what_is_spelled() {
     }
 }
 
-#[test]
-fn what_a_transport_carries_is_told() {
+fn what_a_transport_carries_is_told<P: Pair>() {
     // Worked example 17: an info has at most 261 + 10 bytes, its key and its signature.
-    let longest = match (KEY_SIZE, SIGNATURE_SIZE) {
+    let longest = match (P::KEY_SIZE, P::SIGNATURE_SIZE) {
         (32, 64) => 367,
         (33, 64) => 368,
         (48, 96) | (96, 48) => 415,
         other => panic!("{other:?}"),
     };
-    assert_eq!(max_gossip_size(1000, 32), Some(1 + 32 * longest + 5));
-    assert_eq!(max_gossip_size(100_000, 0), Some(12_514));
-    assert_eq!(max_gossip_size(0, 0), Some(1 + longest));
-    assert_eq!(max_gossip_size(u64::MAX, 0), Some(1 + 10 + 10 + (1 << 61)));
-    assert_eq!(max_gossip_size(0, usize::MAX / longest + 1), None);
+    assert_eq!(max_gossip_size::<P>(1000, 32), Some(1 + 32 * longest + 5));
+    assert_eq!(max_gossip_size::<P>(100_000, 0), Some(12_514));
+    assert_eq!(max_gossip_size::<P>(0, 0), Some(1 + longest));
+    assert_eq!(
+        max_gossip_size::<P>(u64::MAX, 0),
+        Some(1 + 10 + 10 + (1 << 61))
+    );
+    assert_eq!(max_gossip_size::<P>(0, usize::MAX / longest + 1), None);
     assert_eq!(max_size(MAX_PAYLOAD_OVERHEAD), Some(0));
     assert_eq!(max_size(MAX_PAYLOAD_OVERHEAD - 1), None);
     for (channel, size) in [(0, 0), (1, 5), (127, 127), (128, 128), (u64::MAX, 16_384)] {
         let message = vec![7; size];
         let header = EncodedData::new(channel, size as u32);
         let frame = [header.as_bytes(), &message].concat();
-        assert_eq!(frame, Payload::Data(Data { channel, message }).encode());
+        assert_eq!(
+            frame,
+            Payload::<P>::Data(Data { channel, message }).encode()
+        );
     }
     let longest = EncodedData::new(u64::MAX, u32::MAX);
     assert_eq!(longest.as_bytes().len(), MAX_PAYLOAD_OVERHEAD as usize);
 }
 
-#[test]
-fn a_node_tells_its_key_and_greets() {
-    let setup = testing::setup(9);
-    let node = Node::new(&setup).unwrap();
-    assert_eq!(node.public_key(), &key(9));
+fn a_node_tells_its_key_and_greets<P: Pair>() {
+    let setup = testing::setup::<P>(9);
+    let node = Node::<P>::new(&setup).unwrap();
+    assert_eq!(node.public_key(), &key::<P>(9));
     let limits = PayloadConfig {
         max_bit_vec: 0,
         max_peers: 0,
         max_data_length: 0,
     };
-    let greeting = Payload::decode(node.greeting(), &limits);
+    let greeting = Payload::<P>::decode(node.greeting(), &limits);
     assert_eq!(greeting, Ok(Payload::Greeting(setup.myself)));
 }

@@ -1,23 +1,32 @@
 //! Frames in two steps: the node returns the signatures to verify, and later processes the frame
 //! with the results.
 
-use crate::pair::testing::{self, info, key, setup, verify};
-use crate::pair::{
-    BitVec, Data, Error, Judged, Moment, Node, OrderedSet, Payload, Questions, Received,
-    WrongVerdictsError,
-};
-// Where another file has this one as a module, the pair of sizes is that of the other.
-#[allow(unused_imports)]
-use p2p_directory as pair;
+#[macro_use]
+mod each_pair;
+
+use p2p_directory::sized::testing::{self, info, key, setup, verify};
+use p2p_directory::sized::{Judged, Node, OrderedSet, Pair, Payload, Questions, Received};
+use p2p_directory::{BitVec, Data, Error, Moment, WrongVerdictsError};
 use std::sync::Mutex;
 use std::thread;
 use std::time::Duration;
 
+tests_of_each_pair! {
+    the_questions_are_those_of_the_frame,
+    both_steps_answer_as_one,
+    an_info_from_the_future_is_never_applied_unverified,
+    a_verdict_that_is_false_ends_them,
+    verdicts_are_counted,
+    what_another_node_checked_is_refused_and_given_back,
+    a_node_may_change_between_the_steps,
+    threads_verify_while_the_node_is_used,
+}
+
 const NOW: Moment = Moment::from_secs(100);
 
-fn node(number: u16) -> Node {
-    let mut node = Node::new(&setup(number)).unwrap();
-    let peers = OrderedSet::from_iter_dedup((1..=3).map(key)).into();
+fn node<P: Pair>(number: u16) -> Node<P> {
+    let mut node = Node::<P>::new(&setup::<P>(number)).unwrap();
+    let peers = OrderedSet::<P>::from_iter_dedup((1..=3).map(key::<P>)).into();
     node.directory_mut()
         .track(0, &peers)
         .unwrap()
@@ -26,35 +35,34 @@ fn node(number: u16) -> Node {
     node
 }
 
-fn peers(infos: &[(u16, u64)]) -> Vec<u8> {
+fn peers<P: Pair>(infos: &[(u16, u64)]) -> Vec<u8> {
     let infos = infos
         .iter()
-        .map(|(number, timestamp)| info(*number, *timestamp));
+        .map(|(number, timestamp)| info::<P>(*number, *timestamp));
     Payload::Peers(infos.collect()).encode()
 }
 
-fn bits(node: &Node) -> Vec<bool> {
+fn bits<P: Pair>(node: &Node<P>) -> Vec<bool> {
     let bits = node.directory().get_random_bit_vec(0).unwrap();
     bits.unwrap().bits
 }
 
-fn verdicts(questions: &Questions<'_>) -> Vec<bool> {
+fn verdicts<P: Pair>(questions: &Questions<'_, P>) -> Vec<bool> {
     let verdicts = questions.iter().map(verify);
     verdicts.collect()
 }
 
-fn taken(node: &mut Node, judged: Judged<'_>) -> Received {
+fn taken<P: Pair>(node: &mut Node<P>, judged: Judged<'_, P>) -> Received<P> {
     node.receive_judged(judged).expect("this node checked it")
 }
 
-#[test]
-fn the_questions_are_those_of_the_frame() {
-    let node = node(9);
-    let frame = peers(&[(1, 5), (2, 7)]);
+fn the_questions_are_those_of_the_frame<P: Pair>() {
+    let node = node::<P>(9);
+    let frame = peers::<P>(&[(1, 5), (2, 7)]);
     let questions = node.check(&frame, NOW).unwrap();
     assert_eq!(questions.namespace(), testing::NAMESPACE);
     assert_eq!((questions.len(), questions.iter().len()), (2, 2));
-    let told = [info(1, 5), info(2, 7)];
+    let told = [info::<P>(1, 5), info::<P>(2, 7)];
     for (asked, told) in questions.iter().zip(&told) {
         assert_eq!(asked.public_key, told.public_key);
         assert_eq!(asked.message, told.signed_bytes());
@@ -62,14 +70,13 @@ fn the_questions_are_those_of_the_frame() {
     }
 }
 
-#[test]
-fn both_steps_answer_as_one() {
-    let greeting = Payload::Greeting(info(1, 5)).encode();
-    let message = Payload::Data(Data {
+fn both_steps_answer_as_one<P: Pair>() {
+    let greeting = Payload::Greeting(info::<P>(1, 5)).encode();
+    let message = Payload::<P>::Data(Data {
         channel: 1,
         message: vec![7; 9],
     });
-    let question = Payload::BitVec(BitVec {
+    let question = Payload::<P>::BitVec(BitVec {
         index: 0,
         bits: vec![false; 2],
     });
@@ -77,14 +84,14 @@ fn both_steps_answer_as_one() {
         greeting,
         message.encode(),
         question.encode(),
-        peers(&[(1, 5), (2, 7)]),
-        peers(&[(1, 5), (9, 7), (2, 7)]),
-        peers(&[(1, 200_000)]),
+        peers::<P>(&[(1, 5), (2, 7)]),
+        peers::<P>(&[(1, 5), (9, 7), (2, 7)]),
+        peers::<P>(&[(1, 200_000)]),
         vec![4],
         vec![],
     ];
     for frame in frames {
-        let (mut at_once, mut in_steps) = (node(9), node(9));
+        let (mut at_once, mut in_steps) = (node::<P>(9), node::<P>(9));
         let questions = in_steps.check(&frame, NOW).unwrap();
         let verdicts = verdicts(&questions);
         let judged = questions.judged(verdicts).unwrap();
@@ -94,37 +101,35 @@ fn both_steps_answer_as_one() {
     }
 }
 
-#[test]
-fn an_info_from_the_future_is_never_applied_unverified() {
-    let mut node = node(9);
+fn an_info_from_the_future_is_never_applied_unverified<P: Pair>() {
+    let mut node = node::<P>(9);
     // The second timestamp is 30 seconds and a millisecond ahead at `NOW`, and within the bound a
     // second later.
-    let frame = peers(&[(1, 1000), (2, 130_001)]);
+    let frame = peers::<P>(&[(1, 1000), (2, 130_001)]);
     let later = NOW.saturating_add(Duration::from_secs(1));
     let questions = node.check(&frame, NOW).unwrap();
     let keys: Vec<_> = questions.iter().map(|asked| asked.public_key).collect();
-    assert_eq!(keys, [key(1)]);
+    assert_eq!(keys, [key::<P>(1)]);
     assert_eq!(node.check(&frame, later).unwrap().len(), 2);
 
     // However much later, the frame is validated at the time at which it was checked.
     let early = Received::Invalid(Error::SynchronyBound);
     assert_eq!(
-        node.directory().status(&key(2)),
-        Some(crate::pair::Status::Inert)
+        node.directory().status(&key::<P>(2)),
+        Some(p2p_directory::Status::Inert)
     );
     let judged = questions.judged([true]).unwrap();
     assert_eq!(taken(&mut node, judged), early);
     assert_eq!(bits(&node), [false; 3]);
 
-    let received = node.receive(&frame, later, |asked| asked.public_key == key(1));
+    let received = node.receive(&frame, later, |asked| asked.public_key == key::<P>(1));
     assert_eq!(received, Received::Invalid(Error::InvalidSignature));
     assert_eq!(bits(&node), [false; 3]);
 }
 
-#[test]
-fn a_verdict_that_is_false_ends_them() {
-    let frame = peers(&[(1, 5), (2, 5), (3, 5)]);
-    let mut node = node(9);
+fn a_verdict_that_is_false_ends_them<P: Pair>() {
+    let frame = peers::<P>(&[(1, 5), (2, 5), (3, 5)]);
+    let mut node = node::<P>(9);
     let refused = Received::Invalid(Error::InvalidSignature);
     for verdicts in [
         &[false][..],
@@ -142,10 +147,9 @@ fn a_verdict_that_is_false_ends_them() {
     assert_eq!(bits(&node), [true; 3]);
 }
 
-#[test]
-fn verdicts_are_counted() {
-    let frame = peers(&[(1, 5), (2, 5), (3, 5)]);
-    let node = node(9);
+fn verdicts_are_counted<P: Pair>() {
+    let frame = peers::<P>(&[(1, 5), (2, 5), (3, 5)]);
+    let node = node::<P>(9);
     for verdicts in [&[][..], &[true], &[true, true], &[true; 4], &[false; 4]] {
         let questions = node.check(&frame, NOW).unwrap();
         let judged = questions.judged(verdicts.iter().copied());
@@ -157,10 +161,9 @@ fn verdicts_are_counted() {
     assert_eq!(judged.err(), Some(WrongVerdictsError));
 }
 
-#[test]
-fn what_another_node_checked_is_refused_and_given_back() {
-    let (mut one, mut other) = (node(9), node(8));
-    let frame = peers(&[(1, 5)]);
+fn what_another_node_checked_is_refused_and_given_back<P: Pair>() {
+    let (mut one, mut other) = (node::<P>(9), node::<P>(8));
+    let frame = peers::<P>(&[(1, 5)]);
     let judged = one.check(&frame, NOW).unwrap().judged([true]).unwrap();
     let refused = other.receive_judged(judged).unwrap_err();
     assert_eq!(refused.to_string(), "the frame was checked by another node");
@@ -169,12 +172,11 @@ fn what_another_node_checked_is_refused_and_given_back() {
     assert_eq!(bits(&one), [true, false, false]);
 }
 
-#[test]
-fn a_node_may_change_between_the_steps() {
-    let mut node = node(9);
-    let frame = peers(&[(1, 5), (2, 5)]);
+fn a_node_may_change_between_the_steps<P: Pair>() {
+    let mut node = node::<P>(9);
+    let frame = peers::<P>(&[(1, 5), (2, 5)]);
     let judged = node.check(&frame, NOW).unwrap().judged([true; 2]).unwrap();
-    let others = OrderedSet::from_iter_dedup([key(2), key(3)]).into();
+    let others = OrderedSet::<P>::from_iter_dedup([key::<P>(2), key::<P>(3)]).into();
     node.directory_mut()
         .track(1, &others)
         .unwrap()
@@ -185,11 +187,10 @@ fn a_node_may_change_between_the_steps() {
     assert_eq!(bits(&node), [true, false]);
 }
 
-#[test]
-fn threads_verify_while_the_node_is_used() {
+fn threads_verify_while_the_node_is_used<P: Pair>() {
     fn is_shared<T: Send + Sync>(_: &T) {}
-    let node = Mutex::new(node(9));
-    let frame = peers(&[(1, 5), (2, 5), (3, 5)]);
+    let node = Mutex::new(node::<P>(9));
+    let frame = peers::<P>(&[(1, 5), (2, 5), (3, 5)]);
     let questions = node.lock().unwrap().check(&frame, NOW).unwrap();
     is_shared(&questions);
     let verdicts: Vec<bool> = thread::scope(|scope| {
