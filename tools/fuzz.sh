@@ -48,7 +48,7 @@ logged() {
     return 1
 }
 
-FUZZ_SEEDS="$folder/seeds" logged cargo test --offline --test corpus --test keys33_64 -- --ignored writes_seeds
+FUZZ_SEEDS="$folder/seeds" logged cargo test --offline --test corpus -- --ignored writes_seeds
 for target in $targets; do
     corpus=tests/corpus/$target
     mkdir -p "$corpus" "$folder/seen/$target"

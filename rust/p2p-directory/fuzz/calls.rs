@@ -5,7 +5,7 @@
 #[path = "../tests/calls/mod.rs"]
 mod calls;
 
-use p2p_directory as pair;
+use p2p_directory::Keys32_64;
 
 /// libFuzzer calls this with the bytes that it generated.
 #[allow(non_snake_case)]
@@ -13,6 +13,6 @@ use p2p_directory as pair;
 pub extern "C" fn LLVMFuzzerTestOneInput(data: *const u8, size: usize) -> i32 {
     // SAFETY: libFuzzer keeps `size` bytes there, a copy of its own, until this returns.
     let bytes = unsafe { std::slice::from_raw_parts(data, size) };
-    calls::compare(bytes, |_, _| ());
+    calls::compare::<Keys32_64>(bytes, |_, _| ());
     0
 }

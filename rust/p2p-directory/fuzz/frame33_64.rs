@@ -5,7 +5,13 @@
 #[path = "../tests/frames/mod.rs"]
 mod frames;
 
-use p2p_directory::keys33_64 as pair;
+use frames::Frames;
+use p2p_directory::keys33_64::Keys33_64;
+use std::cell::RefCell;
+
+thread_local! {
+    static FRAMES: RefCell<Frames<Keys33_64>> = RefCell::new(Frames::new());
+}
 
 /// libFuzzer calls this with the bytes that it generated.
 #[allow(non_snake_case)]
@@ -13,6 +19,6 @@ use p2p_directory::keys33_64 as pair;
 pub extern "C" fn LLVMFuzzerTestOneInput(data: *const u8, size: usize) -> i32 {
     // SAFETY: libFuzzer keeps `size` bytes there, a copy of its own, until this returns.
     let frame = unsafe { std::slice::from_raw_parts(data, size) };
-    frames::compare(frame);
+    FRAMES.with_borrow_mut(|frames| frames.compare(frame));
     0
 }

@@ -1,18 +1,28 @@
 //! Each file of the corpus that fuzzing found, played as the fuzzer plays it.
 
 mod calls;
+#[macro_use]
+mod each_pair;
 mod frames;
 mod random;
 mod seeds;
 mod valgrind;
 mod widened;
 
-// Where another file has this one as a module, the pair of sizes is that of the other.
-#[allow(unused_imports)]
-use p2p_directory as pair;
+use frames::Frames;
+use p2p_directory::sized::Pair;
 use std::io::{self, Write};
 use std::path::{Path, PathBuf};
 use std::{env, fs};
+
+tests_of_two_pairs! {
+    each_frame_is_read_alike,
+    each_list_of_calls_is_answered_as_by_the_model,
+    the_corpus_is_small,
+    valgrind_finds_nothing,
+    #[ignore = "it writes files"]
+    writes_seeds,
+}
 
 const CORPUS: &str = concat!(env!("CARGO_MANIFEST_DIR"), "/tests/corpus");
 
@@ -21,8 +31,8 @@ const MOST_FILES: usize = 200;
 const MOST_BYTES: usize = 1024;
 
 /// The name of a target with the pair of sizes.
-fn of_pair(target: &str) -> String {
-    match (crate::pair::KEY_SIZE, crate::pair::SIGNATURE_SIZE) {
+fn of_pair<P: Pair>(target: &str) -> String {
+    match (P::KEY_SIZE, P::SIGNATURE_SIZE) {
         (32, 64) => target.to_owned(),
         (key, signature) => format!("{target}{key}_{signature}"),
     }
@@ -41,8 +51,8 @@ fn is_in_a_clone(test: &str) -> bool {
 }
 
 /// The contents of the files of a target, in the order of their names.
-fn corpus(target: &str) -> Vec<(PathBuf, Vec<u8>)> {
-    let entries = fs::read_dir(Path::new(CORPUS).join(of_pair(target))).expect("a folder");
+fn corpus<P: Pair>(target: &str) -> Vec<(PathBuf, Vec<u8>)> {
+    let entries = fs::read_dir(Path::new(CORPUS).join(of_pair::<P>(target))).expect("a folder");
     let mut paths: Vec<PathBuf> = entries.map(|entry| entry.expect("a file").path()).collect();
     paths.sort();
     let read = |path: PathBuf| {
@@ -52,17 +62,17 @@ fn corpus(target: &str) -> Vec<(PathBuf, Vec<u8>)> {
     paths.into_iter().map(read).collect()
 }
 
-#[test]
-fn each_frame_is_read_alike() {
+fn each_frame_is_read_alike<P: Pair>() {
     if !is_in_a_clone("each_frame_is_read_alike") {
         return;
     }
-    let frames = corpus("frame");
+    let frames = corpus::<P>("frame");
+    let mut read_by = Frames::<P>::new();
     let mut read = [0; 4];
     let mut refused = 0;
     for (path, frame) in &frames {
         println!("{}", path.display());
-        match frames::compare(frame) {
+        match read_by.compare(frame) {
             Some(_) => read[usize::from(frame[0])] += 1,
             None => refused += 1,
         }
@@ -74,58 +84,50 @@ fn each_frame_is_read_alike() {
     );
 }
 
-#[test]
-fn each_list_of_calls_is_answered_as_by_the_model() {
+fn each_list_of_calls_is_answered_as_by_the_model<P: Pair>() {
     if !is_in_a_clone("each_list_of_calls_is_answered_as_by_the_model") {
         return;
     }
-    let lists = corpus("calls");
+    let lists = corpus::<P>("calls");
     let mut made = 0;
     for (path, bytes) in &lists {
         println!("{}", path.display());
-        calls::compare(bytes, |_, _| made += 1);
+        calls::compare::<P>(bytes, |_, _| made += 1);
     }
     println!("{made} calls in {} lists", lists.len());
     assert!(made > 0);
 }
 
-#[test]
-fn the_corpus_is_small() {
+fn the_corpus_is_small<P: Pair>() {
     if !is_in_a_clone("the_corpus_is_small") {
         return;
     }
-    let files = [corpus("frame"), corpus("calls")].concat();
+    let files = [corpus::<P>("frame"), corpus::<P>("calls")].concat();
     assert!(files.len() <= MOST_FILES, "{}", files.len());
     for (path, bytes) in files {
         assert!(bytes.len() <= MOST_BYTES, "{}", path.display());
     }
 }
 
-#[test]
-fn valgrind_finds_nothing() {
+fn valgrind_finds_nothing<P: Pair>() {
     if !is_in_a_clone("valgrind_finds_nothing") {
         return;
     }
-    valgrind::finds_nothing(
-        module_path!(),
-        &[
-            "each_frame_is_read_alike",
-            "each_list_of_calls_is_answered_as_by_the_model",
-        ],
-    );
+    valgrind::finds_nothing::<P>(&[
+        "each_frame_is_read_alike",
+        "each_list_of_calls_is_answered_as_by_the_model",
+    ]);
 }
 
 /// Writes the initial corpus for fuzzing into the folder that `FUZZ_SEEDS` names, for
 /// `tools/fuzz.sh`.
-#[test]
-#[ignore = "it writes files"]
-fn writes_seeds() {
+fn writes_seeds<P: Pair>() {
     let folder = PathBuf::from(env::var_os("FUZZ_SEEDS").expect("a folder"));
     let lists = (1..=32)
         .map(|seed| random::bytes(seed, MOST_BYTES))
         .collect();
-    for (target, seeds) in [("frame", seeds::frames()), ("calls", lists)] {
-        let folder = folder.join(of_pair(target));
+    for (target, seeds) in [("frame", seeds::frames::<P>()), ("calls", lists)] {
+        let folder = folder.join(of_pair::<P>(target));
         fs::create_dir_all(&folder).expect("a folder");
         for (place, seed) in seeds.iter().enumerate() {
             fs::write(folder.join(place.to_string()), seed).expect("a file");

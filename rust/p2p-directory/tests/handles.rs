@@ -1,29 +1,36 @@
 //! No memory is leaked, and none is accessed outside of a session's: checked by valgrind, if it is
 //! installed.
 
+#[macro_use]
+mod each_pair;
 mod valgrind;
 
-use crate::pair::testing::{config, info, key, setup, verify};
-use crate::pair::{Directory, Moment, Node, OrderedSet, Payload, Received};
-// Where another file has this one as a module, the pair of sizes is that of the other.
-#[allow(unused_imports)]
-use p2p_directory as pair;
+use p2p_directory::Moment;
+use p2p_directory::sized::testing::{config, info, key, setup, verify};
+use p2p_directory::sized::{Directory, Node, OrderedSet, Pair, Payload, Received};
 use std::time::Duration;
+
+tests_of_each_pair! {
+    directories_live_beside_each_other,
+    nodes_answer_frames_of_each_other,
+    valgrind_finds_nothing,
+}
 
 const NOW: Moment = Moment::from_secs(100);
 
-#[test]
-fn directories_live_beside_each_other() {
-    let mut directories: Vec<Directory> = (1..=20)
-        .map(|number| Directory::init(&[], &info(number, 0), config()).unwrap())
+fn directories_live_beside_each_other<P: Pair>() {
+    let mut directories: Vec<Directory<P>> = (1..=20)
+        .map(|number| Directory::<P>::init(&[], &info::<P>(number, 0), config()).unwrap())
         .collect();
     for (index, directory) in (0..).zip(&mut directories) {
-        let peers = OrderedSet::from_iter_dedup((1..=30).map(key)).into();
+        let peers = OrderedSet::<P>::from_iter_dedup((1..=30).map(key::<P>)).into();
         directory.track(index, &peers).unwrap().accepted().unwrap();
         assert_eq!(directory.tracked(), 29);
-        let granted = directory.listen(&key(30), NOW, Duration::ZERO).unwrap();
+        let granted = directory
+            .listen(&key::<P>(30), NOW, Duration::ZERO)
+            .unwrap();
         let reservation = granted.unwrap();
-        assert_eq!(reservation.public_key(), &key(30));
+        assert_eq!(reservation.public_key(), &key::<P>(30));
         if index % 2 == 0 {
             directory.release(reservation).unwrap();
         }
@@ -33,11 +40,10 @@ fn directories_live_beside_each_other() {
     assert_eq!(moved.join().unwrap(), 7);
 }
 
-#[test]
-fn nodes_answer_frames_of_each_other() {
-    let mut nodes = [1, 2].map(|number| Node::new(&setup(number)).unwrap());
+fn nodes_answer_frames_of_each_other<P: Pair>() {
+    let mut nodes = [1, 2].map(|number| Node::<P>::new(&setup::<P>(number)).unwrap());
     for node in &mut nodes {
-        let peers = OrderedSet::from_iter_dedup((1..=30).map(key)).into();
+        let peers = OrderedSet::<P>::from_iter_dedup((1..=30).map(key::<P>)).into();
         node.directory_mut()
             .track(0, &peers)
             .unwrap()
@@ -50,22 +56,18 @@ fn nodes_answer_frames_of_each_other() {
         panic!("no reply");
     };
     assert_eq!(asker.receive(&reply, NOW, verify), Received::Applied(1));
-    let greeting = Payload::Greeting(info(3, 0)).encode();
+    let greeting = Payload::Greeting(info::<P>(3, 0)).encode();
     assert_eq!(
         asker.receive(&greeting, NOW, verify),
-        Received::Greeted(key(3))
+        Received::Greeted(key::<P>(3))
     );
     let none = asker.receive(&[9, 9], NOW, verify);
     assert!(matches!(none, Received::Codec(_)));
 }
 
-#[test]
-fn valgrind_finds_nothing() {
-    valgrind::finds_nothing(
-        module_path!(),
-        &[
-            "directories_live_beside_each_other",
-            "nodes_answer_frames_of_each_other",
-        ],
-    );
+fn valgrind_finds_nothing<P: Pair>() {
+    valgrind::finds_nothing::<P>(&[
+        "directories_live_beside_each_other",
+        "nodes_answer_frames_of_each_other",
+    ]);
 }

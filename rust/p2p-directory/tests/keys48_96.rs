@@ -1,10 +1,9 @@
-//! The suite with keys of 48 bytes and signatures of 96.
+//! The exports of the library, with keys of 48 bytes and signatures of 96.
 
 // These files are also test programs of their own.
 #![allow(clippy::duplicate_mod)]
 
 mod session_tests;
-mod suite;
 mod table;
 
 use p2p_directory::keys48_96 as pair;

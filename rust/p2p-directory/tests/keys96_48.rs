@@ -1,10 +1,9 @@
-//! The suite with keys of 96 bytes and signatures of 48.
+//! The exports of the library, with keys of 96 bytes and signatures of 48.
 
 // These files are also test programs of their own.
 #![allow(clippy::duplicate_mod)]
 
 mod session_tests;
-mod suite;
 mod table;
 
 use p2p_directory::keys96_48 as pair;

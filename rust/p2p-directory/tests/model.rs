@@ -1,13 +1,16 @@
 //! Random calls of a node, each result compared with that of a model.
 
 mod calls;
+#[macro_use]
+mod each_pair;
 mod random;
 
-use calls::{Call, MOST_CALLS, compare, shrunk};
-// Where another file has this one as a module, the pair of sizes is that of the other.
-#[allow(unused_imports)]
-use p2p_directory as pair;
+use calls::call::Call;
+use calls::{MOST_CALLS, compare, shrunk};
+use p2p_directory::sized::Pair;
 use std::collections::{BTreeMap, BTreeSet};
+
+tests_of_two_pairs! { a_node_answers_as_the_model_does }
 
 const RUNS: usize = 500;
 
@@ -18,17 +21,16 @@ const BYTES: usize = 64 * MOST_CALLS;
 const KINDS: usize = 27;
 
 // The name of a call, without its arguments.
-fn name(call: &Call) -> String {
+fn name<P: Pair>(call: &Call<P>) -> String {
     let shown = format!("{call:?}");
     let end = shown.find(|letter: char| !letter.is_alphanumeric());
     shown[..end.unwrap_or(shown.len())].to_owned()
 }
 
-#[test]
-fn a_node_answers_as_the_model_does() {
+fn a_node_answers_as_the_model_does<P: Pair>() {
     let mut answers: BTreeMap<String, (usize, BTreeSet<String>)> = BTreeMap::new();
     for seed in 1..=RUNS {
-        compare(&random::bytes(seed, BYTES), |call, answer| {
+        compare::<P>(&random::bytes(seed, BYTES), |call, answer| {
             let (count, different) = answers.entry(name(call)).or_default();
             *count += 1;
             different.insert(answer.to_owned());

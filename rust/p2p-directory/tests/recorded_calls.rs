@@ -1,12 +1,12 @@
 //! The calls of logs are those of `tools/exports/session.table` of the repository: their numbers and
 //! names, and the names and types of their parameters.
 
+mod kept;
 mod table;
 
+use kept::Kept;
 use p2p_directory::record::{Argument, Log, LogError, Recorder, ReplayError};
 use p2p_directory::{Directory, Key, Replay, testing};
-use std::io::{self, Write};
-use std::sync::{Arc, Mutex};
 
 /// Room for what a call writes.
 const ROOM: u64 = 7;
@@ -98,20 +98,6 @@ fn numbers_of_logs_have_the_types_of_the_table() {
     }
 }
 
-/// Bytes that stay after the recorder is gone.
-#[derive(Clone, Default)]
-struct Kept(Arc<Mutex<Vec<u8>>>);
-
-impl Write for Kept {
-    fn write(&mut self, bytes: &[u8]) -> io::Result<usize> {
-        self.0.lock().expect("no panic").write(bytes)
-    }
-
-    fn flush(&mut self) -> io::Result<()> {
-        Ok(())
-    }
-}
-
 // Only of frames a part may be recorded, whatever the other slices begin with.
 #[test]
 fn a_slice_that_is_no_frame_is_recorded_whole() {
@@ -123,7 +109,7 @@ fn a_slice_that_is_no_frame_is_recorded_whole() {
     let zeros = Key([0; 32]);
     assert_eq!(directory.status(&zeros), None);
     drop(directory);
-    let log = Log::read(kept.0.lock().expect("no panic").clone()).expect("a log");
+    let log = Log::read(kept.bytes()).expect("a log");
     let call = log.calls().last().expect("a call");
     assert_eq!(call.name(), "status");
     assert_eq!(call.argument("peer"), Some(Argument::Bytes(&[0; 32])));

@@ -1,5 +1,8 @@
 //! Sinks of logs that panic, fail or drop reservations: what is recorded may end, and nothing else.
 
+mod kept;
+
+use kept::Kept;
 use p2p_directory::record::{Log, Recorder, Recording};
 use p2p_directory::{Directory, Moment, OrderedSet, Reservation, Status, testing};
 use std::io::{self, ErrorKind, Write};
@@ -21,26 +24,6 @@ impl<F: FnMut() -> io::Result<()>> Write for Sink<F> {
     fn write(&mut self, bytes: &[u8]) -> io::Result<usize> {
         (self.0)()?;
         Ok(bytes.len())
-    }
-
-    fn flush(&mut self) -> io::Result<()> {
-        Ok(())
-    }
-}
-
-/// Bytes that stay after the recorder is gone.
-#[derive(Clone, Default)]
-struct Kept(Arc<Mutex<Vec<u8>>>);
-
-impl Kept {
-    fn bytes(&self) -> Vec<u8> {
-        self.0.lock().expect("no panic").clone()
-    }
-}
-
-impl Write for Kept {
-    fn write(&mut self, bytes: &[u8]) -> io::Result<usize> {
-        self.0.lock().expect("no panic").write(bytes)
     }
 
     fn flush(&mut self) -> io::Result<()> {

@@ -1,51 +1,52 @@
 //! Logs of calls: what they have, how they end, and that `p2p-replay` makes their calls anew.
 
 mod calls;
+#[macro_use]
+mod each_pair;
+mod kept;
 #[path = "../examples/play/player/mod.rs"]
 mod player;
 mod random;
 
-use crate::pair::{
-    CodecError, Data, Directory, KEY_SIZE, Key, Moment, Node, OrderedSet, Payload, Received,
-    Replay, SIGNATURE_SIZE, testing,
-};
-// Where another file has this one as a module, the pair of sizes is that of the other.
-#[allow(unused_imports)]
-use p2p_directory as pair;
+use kept::Kept;
 use p2p_directory::record::{
     Argument, Call, Log, LogError, MOST_ROOM, Recorder, Recording, ReplayError,
 };
+use p2p_directory::sized::{Directory, Node, OrderedSet, Pair, Payload, Received, Replay, testing};
+use p2p_directory::{CodecError, Data, Moment};
 use player::{Mode, Tally, play};
 use std::io::{self, Write};
 use std::path::{Path, PathBuf};
 use std::process::{Command, Output};
-use std::sync::{Arc, Mutex};
 use std::{env, fs};
 
-/// Bytes that stay after the recorder is gone.
-#[derive(Clone, Default)]
-struct Kept(Arc<Mutex<Vec<u8>>>);
-
-impl Kept {
-    fn bytes(&self) -> Vec<u8> {
-        self.0.lock().expect("no panic").clone()
-    }
-}
-
-impl Write for Kept {
-    fn write(&mut self, bytes: &[u8]) -> io::Result<usize> {
-        self.0.lock().expect("no panic").write(bytes)
-    }
-
-    fn flush(&mut self) -> io::Result<()> {
-        Ok(())
-    }
+tests_of_each_pair! {
+    a_log_has_each_call_and_its_answer,
+    random_calls_are_answered_as_in_their_log,
+    the_model_answers_as_the_library_did,
+    play_replies_as_the_library_did,
+    a_changed_answer_is_named,
+    a_call_that_is_left_out_is_named,
+    calls_that_are_swapped_are_named,
+    a_call_that_ran_out_of_memory_is_counted_as_not_checked,
+    no_answer_is_hidden_by_a_changed_bit,
+    a_log_whose_end_is_missing_has_a_status_of_its_own,
+    a_changed_byte_of_a_log_is_noticed,
+    a_last_record_has_the_number_of_records_and_stands_last,
+    a_log_ends_at_its_bound_and_says_so,
+    a_node_goes_on_when_its_log_fails,
+    other_bytes_are_no_log,
+    of_a_message_the_head_the_length_and_a_checksum_are_recorded,
+    a_message_that_no_line_of_play_has_room_for_is_counted,
+    a_frame_that_is_no_message_is_recorded_whole,
+    a_log_that_asks_for_too_much_room_is_refused,
+    calls_without_a_command_of_play_are_counted,
 }
 
 /// The log of a list of random calls.
-fn random_log(seed: usize) -> Vec<u8> {
+fn random_log<P: Pair>(seed: usize) -> Vec<u8> {
     let kept = Kept::default();
-    calls::make(&random::bytes(seed, 4096), |setup| {
+    calls::make::<P>(&random::bytes(seed, 4096), |setup| {
         Node::new_recorded(setup, Recorder::new(kept.clone(), u64::MAX)).expect("a node")
     });
     kept.bytes()
@@ -55,8 +56,8 @@ fn random_log(seed: usize) -> Vec<u8> {
 struct Scratch(PathBuf);
 
 impl Scratch {
-    fn of(name: &str, bytes: &[u8]) -> Scratch {
-        let name = format!("p2p-recording{KEY_SIZE}-{}-{name}", std::process::id());
+    fn of<P: Pair>(name: &str, bytes: &[u8]) -> Scratch {
+        let name = format!("p2p-recording{}-{}-{name}", P::KEY_SIZE, std::process::id());
         let path = env::temp_dir().join(name);
         fs::write(&path, bytes).expect("a file");
         Scratch(path)
@@ -82,15 +83,14 @@ fn said(output: &Output) -> String {
     String::from_utf8_lossy(&output.stdout).into_owned()
 }
 
-#[test]
-fn a_log_has_each_call_and_its_answer() {
+fn a_log_has_each_call_and_its_answer<P: Pair>() {
     let kept = Kept::default();
     let recorder = Recorder::new(kept.clone(), 1 << 20);
-    let setup = testing::setup(9);
-    let mut directory =
-        Directory::init_recorded(&[], &setup.myself, setup.cfg, recorder).expect("a directory");
-    let peer = testing::key(1);
-    let set = OrderedSet::from_iter_dedup([peer]);
+    let setup = testing::setup::<P>(9);
+    let mut directory = Directory::<P>::init_recorded(&[], &setup.myself, setup.cfg, recorder)
+        .expect("a directory");
+    let peer = testing::key::<P>(1);
+    let set = OrderedSet::<P>::from_iter_dedup([peer]);
     let _ = directory.track(7, &set.into()).expect("memory");
     let held = directory.listen(&peer, Moment::from_secs(100), std::time::Duration::ZERO);
     drop(held.expect("memory").expect("a grant"));
@@ -99,7 +99,7 @@ fn a_log_has_each_call_and_its_answer() {
 
     let log = Log::read(kept.bytes()).expect("a log");
     let sizes = (log.header().key_size, log.header().signature_size);
-    assert_eq!(sizes, (KEY_SIZE, SIGNATURE_SIZE));
+    assert_eq!(sizes, (P::KEY_SIZE, P::SIGNATURE_SIZE));
     let told: Vec<(&str, u64)> = log
         .calls()
         .map(|call| (call.name(), call.answer.number))
@@ -122,21 +122,19 @@ fn a_log_has_each_call_and_its_answer() {
     assert_eq!((log.is_full(), log.is_cut()), (false, false));
 }
 
-#[test]
-fn random_calls_are_answered_as_in_their_log() {
+fn random_calls_are_answered_as_in_their_log<P: Pair>() {
     for seed in 1..=20 {
-        let log = Scratch::of(&format!("random-{seed}"), &random_log(seed));
+        let log = Scratch::of::<P>(&format!("random-{seed}"), &random_log::<P>(seed));
         let output = replayed(&[], &log.0);
         assert!(output.status.success(), "{}", said(&output));
         assert!(said(&output).contains("answered as in the log"));
     }
 }
 
-#[test]
-fn the_model_answers_as_the_library_did() {
+fn the_model_answers_as_the_library_did<P: Pair>() {
     for seed in 1..=20 {
-        let bytes = random_log(seed);
-        let file = Scratch::of(&format!("model-{seed}"), &bytes);
+        let bytes = random_log::<P>(seed);
+        let file = Scratch::of::<P>(&format!("model-{seed}"), &bytes);
         let output = replayed(&["--model"], &file.0);
         assert!(
             output.status.success(),
@@ -147,16 +145,15 @@ fn the_model_answers_as_the_library_did() {
     }
 }
 
-#[test]
-fn play_replies_as_the_library_did() {
+fn play_replies_as_the_library_did<P: Pair>() {
     let mut replies = 0;
     for seed in 1..=20 {
-        let log = Scratch::of(&format!("script-{seed}"), &random_log(seed));
+        let log = Scratch::of::<P>(&format!("script-{seed}"), &random_log::<P>(seed));
         let script = replayed(&["--script"], &log.0);
         assert!(script.status.success());
         let mut otherwise = Vec::new();
         let tally: Tally =
-            play::<calls::Sizes>(&script.stdout[..], &mut otherwise, Mode::Checks).expect("a list");
+            play::<P>(&script.stdout[..], &mut otherwise, Mode::Checks).expect("a list");
         let otherwise = String::from_utf8_lossy(&otherwise);
         assert!(tally.is_good(), "seed {seed}: {tally}: {otherwise}");
         replies += tally.expected;
@@ -215,9 +212,9 @@ fn granted(log: &[u8]) -> usize {
     found.expect("a grant before its connection").0.place
 }
 
-fn differs_at(name: &str, log: &[u8], place: usize) {
+fn differs_at<P: Pair>(name: &str, log: &[u8], place: usize) {
     for words in [&[][..], &["--model"]] {
-        let file = Scratch::of(name, log);
+        let file = Scratch::of::<P>(name, log);
         let output = replayed(words, &file.0);
         assert_eq!(output.status.code(), Some(1), "{}", said(&output));
         let told = said(&output);
@@ -229,35 +226,32 @@ fn differs_at(name: &str, log: &[u8], place: usize) {
     }
 }
 
-#[test]
-fn a_changed_answer_is_named() {
-    let log = random_log(3);
+fn a_changed_answer_is_named<P: Pair>() {
+    let log = random_log::<P>(3);
     let (head, mut records) = parts(&log);
     let place = granted(&log);
     // The number comes last.
     let mut changed = records[place].to_vec();
     *changed.last_mut().expect("an answer") = 0;
     records[place] = &changed;
-    differs_at("changed", &whole(head, &records), place);
+    differs_at::<P>("changed", &whole(head, &records), place);
 }
 
-#[test]
-fn a_call_that_is_left_out_is_named() {
-    let log = random_log(3);
+fn a_call_that_is_left_out_is_named<P: Pair>() {
+    let log = random_log::<P>(3);
     let (head, mut records) = parts(&log);
     let place = granted(&log);
     records.remove(place);
     // The connection has its place then, and finds no reservation.
-    differs_at("left-out", &whole(head, &records), place);
+    differs_at::<P>("left-out", &whole(head, &records), place);
 }
 
-#[test]
-fn calls_that_are_swapped_are_named() {
-    let log = random_log(3);
+fn calls_that_are_swapped_are_named<P: Pair>() {
+    let log = random_log::<P>(3);
     let (head, mut records) = parts(&log);
     let place = granted(&log);
     records.swap(place, place + 1);
-    differs_at("swapped", &whole(head, &records), place);
+    differs_at::<P>("swapped", &whole(head, &records), place);
 }
 
 // The log with a record of a call that was refused for want of memory, before one that was made.
@@ -271,10 +265,9 @@ fn with_a_refusal(log: &[u8]) -> Vec<u8> {
     whole(head, &records)
 }
 
-#[test]
-fn a_call_that_ran_out_of_memory_is_counted_as_not_checked() {
-    let log = with_a_refusal(&random_log(3));
-    let file = Scratch::of("out-of-memory", &log);
+fn a_call_that_ran_out_of_memory_is_counted_as_not_checked<P: Pair>() {
+    let log = with_a_refusal(&random_log::<P>(3));
+    let file = Scratch::of::<P>("out-of-memory", &log);
     let not_checked = "1 refused for want of memory, not checked";
     for way in [&[][..], &["--model"], &["--play"]] {
         let none = [way, &["--unchecked", "0"]].concat();
@@ -292,9 +285,8 @@ fn a_call_that_ran_out_of_memory_is_counted_as_not_checked() {
 
 // An answer that there is none, made one of want of memory by a changed bit, is no answer as in the
 // log.
-#[test]
-fn no_answer_is_hidden_by_a_changed_bit() {
-    let log = random_log(3);
+fn no_answer_is_hidden_by_a_changed_bit<P: Pair>() {
+    let log = random_log::<P>(3);
     let (head, records) = parts(&log);
     let none = p2p_directory_sys::NONE.to_be_bytes();
     let places = 0..records.len();
@@ -307,14 +299,13 @@ fn no_answer_is_hidden_by_a_changed_bit() {
         assert_eq!(changed.last_chunk(), Some(&[0xff; 8]));
         let mut records = records.clone();
         records[place] = &changed;
-        let file = Scratch::of(&format!("hidden-{place}"), &whole(head, &records));
+        let file = Scratch::of::<P>(&format!("hidden-{place}"), &whole(head, &records));
         assert_eq!(replayed(&[], &file.0).status.code(), Some(1), "{place}");
     }
 }
 
-#[test]
-fn a_log_whose_end_is_missing_has_a_status_of_its_own() {
-    let log = random_log(5);
+fn a_log_whose_end_is_missing_has_a_status_of_its_own<P: Pair>() {
+    let log = random_log::<P>(5);
     let (head, records) = parts(&log);
     let ten = [head, &records[..10].concat()].concat();
     let more = [&ten, &records[10][..3]].concat();
@@ -322,19 +313,18 @@ fn a_log_whose_end_is_missing_has_a_status_of_its_own() {
     for cut in [&log[..log.len() - 1], &log[..last], &ten, &more] {
         let read = Log::read(cut.to_vec()).expect("a log");
         assert!(read.is_cut() && !read.is_full());
-        let file = Scratch::of(&format!("cut-{}", cut.len()), cut);
+        let file = Scratch::of::<P>(&format!("cut-{}", cut.len()), cut);
         let output = replayed(&[], &file.0);
         assert_eq!(output.status.code(), Some(3), "{}", said(&output));
         assert!(said(&output).contains("cut off"), "{}", said(&output));
     }
     assert_eq!(Log::read(ten).expect("a log").calls().count(), 10);
-    let file = Scratch::of("whole", &log);
+    let file = Scratch::of::<P>("whole", &log);
     assert_eq!(replayed(&[], &file.0).status.code(), Some(0));
 }
 
-#[test]
-fn a_changed_byte_of_a_log_is_noticed() {
-    let log = random_log(5);
+fn a_changed_byte_of_a_log_is_noticed<P: Pair>() {
+    let log = random_log::<P>(5);
     assert!(Log::read(log.clone()).is_ok_and(|log| !log.is_cut()));
     let tail = log.len() - LAST;
     for place in (5..log.len()).step_by(7).chain(tail..log.len()) {
@@ -346,9 +336,8 @@ fn a_changed_byte_of_a_log_is_noticed() {
     }
 }
 
-#[test]
-fn a_last_record_has_the_number_of_records_and_stands_last() {
-    let log = random_log(5);
+fn a_last_record_has_the_number_of_records_and_stands_last<P: Pair>() {
+    let log = random_log::<P>(5);
     let (head, records) = parts(&log);
     let mut other = whole(head, &records);
     let count = other.len() - 5;
@@ -366,20 +355,19 @@ fn a_last_record_has_the_number_of_records_and_stands_last() {
     }
 }
 
-#[test]
-fn a_log_ends_at_its_bound_and_says_so() {
-    let unbounded = random_log(5).len() as u64;
+fn a_log_ends_at_its_bound_and_says_so<P: Pair>() {
+    let unbounded = random_log::<P>(5).len() as u64;
     for limit in [400, 1_000, 5_000] {
         let kept = Kept::default();
         let recorder = Recorder::new(kept.clone(), limit);
-        calls::make(&random::bytes(5, 4096), |setup| {
+        calls::make::<P>(&random::bytes(5, 4096), |setup| {
             Node::new_recorded(setup, recorder).expect("a node goes on")
         });
         let bytes = kept.bytes();
         assert!(bytes.len() as u64 <= limit && limit < unbounded);
         let log = Log::read(bytes).expect("a log");
         assert!(log.is_full() && !log.is_cut());
-        let file = Scratch::of(&format!("full-{limit}"), &kept.bytes());
+        let file = Scratch::of::<P>(&format!("full-{limit}"), &kept.bytes());
         let output = replayed(&[], &file.0);
         assert!(said(&output).contains("the log is full"));
         assert_eq!(output.status.code(), Some(3));
@@ -403,13 +391,12 @@ impl Write for Failing {
     }
 }
 
-#[test]
-fn a_node_goes_on_when_its_log_fails() {
+fn a_node_goes_on_when_its_log_fails<P: Pair>() {
     let recorder = Recorder::new(Failing(3), u64::MAX);
-    let mut node = Node::new_recorded(&testing::setup(9), recorder).expect("a node");
+    let mut node = Node::<P>::new_recorded(&testing::setup(9), recorder).expect("a node");
     assert_eq!(node.directory().recording(), Some(Recording::Going));
     for secs in [1, 2] {
-        let peer: Key = testing::key(secs as u16);
+        let peer: P::Key = testing::key::<P>(secs as u16);
         assert_eq!(
             node.directory_mut().block(&peer, Moment::from_secs(secs)),
             Ok(true)
@@ -417,13 +404,12 @@ fn a_node_goes_on_when_its_log_fails() {
     }
     let failed = Recording::Failed(io::ErrorKind::StorageFull);
     assert_eq!(node.directory().recording(), Some(failed));
-    let first = Moment::from_secs(1).saturating_add(testing::setup(9).cfg.block_duration);
+    let first = Moment::from_secs(1).saturating_add(testing::setup::<P>(9).cfg.block_duration);
     assert_eq!(node.directory().next_unblock(), Some(first));
 }
 
-#[test]
-fn other_bytes_are_no_log() {
-    let log = random_log(1);
+fn other_bytes_are_no_log<P: Pair>() {
+    let log = random_log::<P>(1);
     let error = |bytes: &[u8]| Log::read(bytes.to_vec()).err();
     assert_eq!(error(b""), Some(LogError::NoLog));
     assert_eq!(error(&log[..40]), Some(LogError::NoLog));
@@ -438,7 +424,7 @@ fn other_bytes_are_no_log() {
     records[0] = &first;
     let unknown = whole(head, &records);
     assert_eq!(error(&unknown), Some(LogError::Record(0)));
-    let file = Scratch::of("unknown", &unknown);
+    let file = Scratch::of::<P>("unknown", &unknown);
     let output = replayed(&[], &file.0);
     assert_eq!(output.status.code(), Some(2));
 }
@@ -469,17 +455,16 @@ fn a_log_of_version_1_is_read() {
 }
 
 // What a node recorded that made the calls of the closure.
-fn recorded(calls: impl FnOnce(&mut Node)) -> Vec<u8> {
+fn recorded<P: Pair>(calls: impl FnOnce(&mut Node<P>)) -> Vec<u8> {
     let kept = Kept::default();
     let recorder = Recorder::new(kept.clone(), 1 << 20);
-    let mut node = Node::new_recorded(&testing::setup(9), recorder).expect("a node");
+    let mut node = Node::<P>::new_recorded(&testing::setup(9), recorder).expect("a node");
     calls(&mut node);
     drop(node);
     kept.bytes()
 }
 
-#[test]
-fn of_a_message_the_head_the_length_and_a_checksum_are_recorded() {
+fn of_a_message_the_head_the_length_and_a_checksum_are_recorded<P: Pair>() {
     let now = Moment::from_secs(1);
     let secret = *b"a message that stands in no log";
     for count in [1, 100] {
@@ -487,13 +472,13 @@ fn of_a_message_the_head_the_length_and_a_checksum_are_recorded() {
             channel: 300,
             message: secret.repeat(count),
         };
-        let frame = Payload::Data(data).encode();
+        let frame = Payload::<P>::Data(data).encode();
         let length = frame.len() as u64;
         let received = Received::Data {
             channel: 300,
             message: frame.len() - secret.len() * count..frame.len(),
         };
-        let bytes = recorded(|node| {
+        let bytes = recorded::<P>(|node| {
             assert_eq!(node.receive(&frame, now, testing::verify), received);
             // It is longer than it says: the answer is by its header and its length.
             let longer = [&frame[..], &[0]].concat();
@@ -514,7 +499,7 @@ fn of_a_message_the_head_the_length_and_a_checksum_are_recorded() {
         let most = length - 1;
         let refused = Err(ReplayError::TooLarge { length, most });
         assert_eq!(wanted.bytes(most), refused);
-        let file = Scratch::of(&format!("message-{count}"), &bytes);
+        let file = Scratch::of::<P>(&format!("message-{count}"), &bytes);
         for words in [&[][..], &["--model"], &["--play"]] {
             let output = replayed(words, &file.0);
             assert!(output.status.success(), "{words:?}: {}", said(&output));
@@ -522,17 +507,16 @@ fn of_a_message_the_head_the_length_and_a_checksum_are_recorded() {
     }
 }
 
-#[test]
-fn a_message_that_no_line_of_play_has_room_for_is_counted() {
+fn a_message_that_no_line_of_play_has_room_for_is_counted<P: Pair>() {
     let data = |length| {
         let message = vec![7; length];
-        Payload::Data(Data {
+        Payload::<P>::Data(Data {
             channel: 0,
             message,
         })
         .encode()
     };
-    let mut setup = testing::setup(9);
+    let mut setup = testing::setup::<P>(9);
     setup.payload.max_data_length = 1 << 20;
     let kept = Kept::default();
     let recorder = Recorder::new(kept.clone(), 1 << 20);
@@ -543,22 +527,23 @@ fn a_message_that_no_line_of_play_has_room_for_is_counted() {
     }
     drop(node);
     let bytes = kept.bytes();
-    let file = Scratch::of("long-message", &bytes);
+    let file = Scratch::of::<P>("long-message", &bytes);
     let told = "3 calls, 2 answered as in the log, 1 without a command of play, not checked";
     let output = replayed(&["--play"], &file.0);
     assert!(output.status.success(), "{}", said(&output));
     assert!(said(&output).contains(told), "{}", said(&output));
 }
 
-#[test]
-fn a_frame_that_is_no_message_is_recorded_whole() {
-    let infos: Vec<_> = (1..=5).map(|number| testing::info(number, 0)).collect();
-    let short = Payload::Data(Data {
+fn a_frame_that_is_no_message_is_recorded_whole<P: Pair>() {
+    let infos: Vec<_> = (1..=5)
+        .map(|number| testing::info::<P>(number, 0))
+        .collect();
+    let short = Payload::<P>::Data(Data {
         channel: 0,
         message: vec![7; 12],
     });
     let frames = [Payload::Peers(infos).encode(), short.encode(), vec![9; 300]];
-    let bytes = recorded(|node| {
+    let bytes = recorded::<P>(|node| {
         for frame in &frames {
             let _ = node.receive(frame, Moment::from_secs(1), testing::verify);
         }
@@ -575,8 +560,8 @@ fn a_frame_that_is_no_message_is_recorded_whole() {
 }
 
 // A log in which a call has so much room for its answer.
-fn roomy(room: u64) -> Vec<u8> {
-    let log = recorded(|node| assert_eq!(node.ask(0), Ok(None)));
+fn roomy<P: Pair>(room: u64) -> Vec<u8> {
+    let log = recorded::<P>(|node| assert_eq!(node.ask(0), Ok(None)));
     let (head, mut records) = parts(&log);
     let mut asked = records[1].to_vec();
     // The room stands before the answer's number.
@@ -586,15 +571,14 @@ fn roomy(room: u64) -> Vec<u8> {
     whole(head, &records)
 }
 
-#[test]
-fn a_log_that_asks_for_too_much_room_is_refused() {
+fn a_log_that_asks_for_too_much_room_is_refused<P: Pair>() {
     assert_eq!(MOST_ROOM, 256 << 20);
     let length = MOST_ROOM + 1;
-    let bytes = roomy(length);
+    let bytes = roomy::<P>(length);
     assert!(bytes.len() < 1024);
     let log = Log::read(bytes.clone()).expect("a log");
     let call = log.calls().nth(1).expect("a call");
-    let made = |replay: Option<Replay>| {
+    let made = |replay: Option<Replay<P>>| {
         let mut replay = replay.expect("memory");
         let init = log.calls().next().expect("a call");
         assert_eq!(replay.make(&init), Ok(init.answer));
@@ -608,7 +592,7 @@ fn a_log_that_asks_for_too_much_room_is_refused() {
     assert_eq!(made(Replay::with_room(most)), refused);
     assert_eq!(made(Replay::with_room(length)), Ok(call.answer.clone()));
 
-    let file = Scratch::of("room", &bytes);
+    let file = Scratch::of::<P>("room", &bytes);
     let output = replayed(&[], &file.0);
     assert_eq!(output.status.code(), Some(2));
     let told = String::from_utf8_lossy(&output.stderr).into_owned();
@@ -618,13 +602,12 @@ fn a_log_that_asks_for_too_much_room_is_refused() {
     assert!(output.status.success(), "{}", said(&output));
 }
 
-#[test]
-fn calls_without_a_command_of_play_are_counted() {
-    let log = recorded(|node| {
+fn calls_without_a_command_of_play_are_counted<P: Pair>() {
+    let log = recorded::<P>(|node| {
         assert_eq!(node.directory().retained(), 0);
         assert_eq!(node.directory().tracked(), 0);
     });
-    let file = Scratch::of("without-command", &log);
+    let file = Scratch::of::<P>("without-command", &log);
     let told = "3 calls, 2 answered as in the log, 1 without a command of play, not checked";
     for (words, status) in [
         (&["--play"][..], 0),

@@ -8,7 +8,6 @@
 mod player;
 mod widened;
 
-use p2p_directory as pair;
 use p2p_directory::Keys32_64;
 use player::{Mode, Tally, play};
 use std::collections::BTreeMap;
@@ -120,7 +119,10 @@ fn widened_line(line: &str) -> String {
     let mut widened = String::new();
     for word in line.split_inclusive(|letter| !is_digit(letter)) {
         let digits = word.trim_end_matches(|letter| !is_digit(letter));
-        match bytes_of(digits).as_deref().and_then(widened_frame) {
+        match bytes_of(digits)
+            .as_deref()
+            .and_then(widened_frame::<Keys32_64>)
+        {
             Some(frame) => {
                 widened.extend(frame.iter().map(|byte| format!("{byte:02x}")));
                 widened += &word[digits.len()..];

@@ -1,11 +1,10 @@
 //! How a list of calls is decoded from bytes.
 
-use super::Call;
-use crate::pair::testing::{NAMESPACE, key, sign};
-use crate::pair::{
-    BitVec, Config, Data, Hostname, Info, Ingress, Key, Moment, Payload, PayloadConfig,
-    SIGNATURE_SIZE, Setup, Signature,
-};
+use super::call::Call;
+use p2p_directory::sized::testing::{NAMESPACE, info, key, sign};
+use p2p_directory::sized::{Bytes, Info, Pair, Payload, Setup};
+use p2p_directory::{BitVec, Config, Data, Hostname, Ingress, Moment, PayloadConfig};
+use std::marker::PhantomData;
 use std::net::{Ipv6Addr, SocketAddr};
 use std::num::NonZeroUsize;
 use std::time::Duration;
@@ -15,11 +14,21 @@ const OWN: u16 = 9;
 
 /// The rest of the bytes from which calls are made. Each decision takes a byte, which is 0 after
 /// the end, so any bytes describe calls.
-pub struct Draws<'a>(pub &'a [u8]);
+pub struct Draws<'a, P> {
+    bytes: &'a [u8],
+    pair: PhantomData<P>,
+}
 
-impl Draws<'_> {
+impl<P: Pair> Draws<'_, P> {
+    pub fn of(bytes: &[u8]) -> Draws<'_, P> {
+        Draws {
+            bytes,
+            pair: PhantomData,
+        }
+    }
+
     fn byte(&mut self) -> u8 {
-        self.0.split_off_first().copied().unwrap_or(0)
+        self.bytes.split_off_first().copied().unwrap_or(0)
     }
 
     // A byte can choose among at most 256 numbers.
@@ -36,13 +45,13 @@ impl Draws<'_> {
     }
 
     // One of few peers, so that calls concern the same peers.
-    fn peer(&mut self) -> Key {
-        key(self.one(&[1, 1, 1, 2, 2, 3, 4, 5, OWN]))
+    fn peer(&mut self) -> P::Key {
+        key::<P>(self.one(&[1, 1, 1, 2, 2, 3, 4, 5, OWN]))
     }
 
     // Mostly three peers, so that their number is often that of the bits.
-    fn peers(&mut self) -> Vec<Key> {
-        let all = [1, 2, 3, 4, 5, OWN].map(key);
+    fn peers(&mut self) -> Vec<P::Key> {
+        let all = [1, 2, 3, 4, 5, OWN].map(key::<P>);
         let first = self.below(6) as usize;
         match self.below(4) {
             0 => all.into_iter().filter(|_| self.truth()).collect(),
@@ -87,25 +96,25 @@ impl Draws<'_> {
         }
     }
 
-    fn info(&mut self, step: usize) -> Info {
+    fn info(&mut self, step: usize) -> Info<P> {
         let public_key = self.peer();
         let recent = 500 * (180 + step as u64 + self.below(120));
         let timestamp = self.one(&[0, 1, 2, 100_000, recent, recent, recent, u64::MAX]);
         let is_right = self.below(6) > 0;
         let ingress = self.ingress();
-        Info::sign(
+        Info::<P>::sign(
             public_key,
             NAMESPACE,
             ingress,
             timestamp,
             |namespace, message| match is_right {
-                true => sign(&public_key, namespace, message),
-                false => Signature([1; SIGNATURE_SIZE]),
+                true => sign::<P>(&public_key, namespace, message),
+                false => P::Signature::of_bytes(&vec![1; P::SIGNATURE_SIZE]).expect("bytes"),
             },
         )
     }
 
-    fn infos(&mut self, step: usize) -> Vec<Info> {
+    fn infos(&mut self, step: usize) -> Vec<Info<P>> {
         let count = self.below(4);
         (0..count).map(|_| self.info(step)).collect()
     }
@@ -127,7 +136,7 @@ impl Draws<'_> {
         }
     }
 
-    fn payload(&mut self, step: usize) -> Payload {
+    fn payload(&mut self, step: usize) -> Payload<P> {
         match self.below(8) {
             0..3 => Payload::Greeting(self.info(step)),
             3..5 => Payload::BitVec(self.bit_vec(step)),
@@ -143,7 +152,7 @@ impl Draws<'_> {
         self.one(&[0, 0, 0, 1, 2, usize::MAX])
     }
 
-    fn change(&mut self, step: usize) -> Call {
+    fn change(&mut self, step: usize) -> Call<P> {
         let now = self.moment(step);
         match self.below(24) {
             0..3 => Call::Track(self.index(step), self.peers(), self.peers()),
@@ -161,7 +170,7 @@ impl Draws<'_> {
         }
     }
 
-    fn question(&mut self, step: usize) -> Call {
+    fn question(&mut self, step: usize) -> Call<P> {
         let now = self.moment(step);
         match self.below(18) {
             0 => Call::NextUnblock,
@@ -184,9 +193,9 @@ impl Draws<'_> {
 
     /// The remaining calls, at most so many. A peer that is dialled or accepted is often connected
     /// next.
-    pub fn calls(&mut self, most: usize) -> Vec<Call> {
-        let mut calls: Vec<Call> = Vec::new();
-        while calls.len() < most && !self.0.is_empty() {
+    pub fn calls(&mut self, most: usize) -> Vec<Call<P>> {
+        let mut calls: Vec<Call<P>> = Vec::new();
+        while calls.len() < most && !self.bytes.is_empty() {
             let step = calls.len();
             let next = match calls.last() {
                 Some(Call::Dial(peer, ..) | Call::Listen(peer, ..)) if self.truth() => {
@@ -204,13 +213,13 @@ impl Draws<'_> {
     }
 
     /// The settings of a node.
-    pub fn setup(&mut self) -> Setup {
+    pub fn setup(&mut self) -> Setup<P> {
         let halves = |halves: u64| Duration::from_millis(500) * halves as u32;
-        let bootstrappers = [3, 4, 3, OWN].map(|number| (key(number), self.ingress()));
+        let bootstrappers = [3, 4, 3, OWN].map(|number| (key::<P>(number), self.ingress()));
         let count = self.below(5) as usize;
         Setup {
             bootstrappers: bootstrappers[..count].to_vec(),
-            myself: crate::pair::testing::info(OWN, self.one(&[0, 100_000, u64::MAX])),
+            myself: info(OWN, self.one(&[0, 100_000, u64::MAX])),
             cfg: Config {
                 allow_private_ips: self.truth(),
                 allow_dns: self.truth(),

@@ -11,30 +11,14 @@ pub mod model;
 #[allow(dead_code)]
 mod real;
 
-#[cfg(feature = "record")]
-use crate::pair::Node;
-use crate::pair::testing::verify;
-use crate::pair::{Info, Setup};
+use call::Call;
 use draws::Draws;
 use model::Model;
-use p2p_directory::sized::{self, Pair};
+#[cfg(feature = "record")]
+use p2p_directory::sized::Node;
+use p2p_directory::sized::testing::verify;
+use p2p_directory::sized::{Info, Pair, Setup};
 use real::Real;
-
-/// What has keys and signatures.
-pub trait OfSizes {
-    /// Their sizes.
-    type Sizes: Pair;
-}
-
-impl<P: Pair> OfSizes for sized::Info<P> {
-    type Sizes = P;
-}
-
-/// The sizes of keys and signatures of the program.
-pub type Sizes = <Info as OfSizes>::Sizes;
-
-/// A call with keys of these sizes.
-pub type Call = call::Call<Sizes>;
 
 /// The maximum number of calls in a list.
 #[allow(dead_code)]
@@ -52,8 +36,8 @@ struct Difference {
 /// Makes the calls that the bytes describe, and passes each with its result to the closure. Panics
 /// if a result differs from that of the model.
 #[allow(dead_code)]
-pub fn compare(bytes: &[u8], tell: impl FnMut(&Call, &str)) {
-    let mut draws = Draws(bytes);
+pub fn compare<P: Pair>(bytes: &[u8], tell: impl FnMut(&Call<P>, &str)) {
+    let mut draws = Draws::<P>::of(bytes);
     let setup = draws.setup();
     let calls = draws.calls(MOST_CALLS);
     if difference(&setup, &calls, tell).is_some() {
@@ -64,8 +48,8 @@ pub fn compare(bytes: &[u8], tell: impl FnMut(&Call, &str)) {
 /// Makes the calls that the bytes describe on a node that is made with their setup.
 #[cfg(feature = "record")]
 #[allow(dead_code)]
-pub fn make(bytes: &[u8], made: impl FnOnce(&Setup) -> Node) -> Setup {
-    let mut draws = Draws(bytes);
+pub fn make<P: Pair>(bytes: &[u8], made: impl FnOnce(&Setup<P>) -> Node<P>) -> Setup<P> {
+    let mut draws = Draws::<P>::of(bytes);
     let setup = draws.setup();
     let mut real = Real::of(made(&setup), &setup);
     for call in draws.calls(MOST_CALLS) {
@@ -76,14 +60,14 @@ pub fn make(bytes: &[u8], made: impl FnOnce(&Setup) -> Node) -> Setup {
 
 /// The first call whose result differs. Passes each call with its result to the closure.
 #[allow(dead_code)]
-fn difference(
-    setup: &Setup,
-    calls: &[Call],
-    mut tell: impl FnMut(&Call, &str),
+fn difference<P: Pair>(
+    setup: &Setup<P>,
+    calls: &[Call<P>],
+    mut tell: impl FnMut(&Call<P>, &str),
 ) -> Option<Difference> {
     let mut real = Real::new(setup.clone());
     let mut model = Model::new(setup.clone());
-    let is_valid = |_: usize, info: &Info| info.verify(&setup.namespace, verify);
+    let is_valid = |_: usize, info: &Info<P>| info.verify(&setup.namespace, verify);
     calls.iter().enumerate().find_map(|(place, call)| {
         let answer = real.answer(call);
         let wanted = model.answer(call, &is_valid);
@@ -115,7 +99,7 @@ pub fn shrunk<T: Clone>(mut calls: Vec<T>, is_seen: impl Fn(&[T]) -> bool) -> Ve
 
 /// Panics with the reduced list of calls, one of which has a different result in the model.
 #[allow(dead_code)]
-fn fail(setup: &Setup, calls: Vec<Call>) -> ! {
+fn fail<P: Pair>(setup: &Setup<P>, calls: Vec<Call<P>>) -> ! {
     let left = shrunk(calls, |calls| difference(setup, calls, |_, _| ()).is_some());
     let Difference {
         place,

@@ -1,30 +1,30 @@
 //! A node of this crate, called as the model is.
 
-use super::Call;
+use super::call::Call;
 use super::model::{CUTS, shown};
-use crate::pair::testing::verify;
-use crate::pair::{
-    Info, InfoVerifier, Key, Metadata, Moment, Node, OrderedSet, Payload, Reservation, Setup,
-    TrackedPeers, ValidateError,
+use p2p_directory::sized::testing::verify;
+use p2p_directory::sized::{
+    Info, InfoVerifier, Metadata, Node, OrderedSet, Pair, Payload, Reservation, Setup, TrackedPeers,
 };
+use p2p_directory::{Moment, ValidateError};
 use std::collections::BTreeMap;
 
-pub struct Real {
-    node: Node,
+pub struct Real<P: Pair> {
+    node: Node<P>,
     // It has the same key, limits and namespace.
-    verifier: InfoVerifier,
-    held: BTreeMap<Key, Reservation>,
+    verifier: InfoVerifier<P>,
+    held: BTreeMap<P::Key, Reservation<P>>,
 }
 
 const MEMORY: &str = "there is memory";
 
-impl Real {
-    pub fn new(setup: Setup) -> Real {
+impl<P: Pair> Real<P> {
+    pub fn new(setup: Setup<P>) -> Real<P> {
         Real::of(Node::new(&setup).expect("a node"), &setup)
     }
 
     /// A node that has this setup.
-    pub fn of(node: Node, setup: &Setup) -> Real {
+    pub fn of(node: Node<P>, setup: &Setup<P>) -> Real<P> {
         let (count, bound) = (setup.peer_gossip_max_count, setup.synchrony_bound);
         let verifier = Info::verifier(setup.myself.public_key, count, bound, &setup.namespace);
         Real {
@@ -34,11 +34,11 @@ impl Real {
         }
     }
 
-    pub fn answer(&mut self, call: &Call) -> String {
+    pub fn answer(&mut self, call: &Call<P>) -> String {
         let directory = self.node.directory_mut();
         match call {
             Call::Track(index, primary, secondary) => {
-                let set = |peers: &[Key]| OrderedSet::from_iter_dedup(peers.iter().copied());
+                let set = |peers: &[P::Key]| OrderedSet::from_iter_dedup(peers.iter().copied());
                 let peers = TrackedPeers::new(set(primary), set(secondary));
                 let tracked = directory.track(*index, &peers).expect(MEMORY);
                 shown(tracked.accepted())
@@ -78,7 +78,7 @@ impl Real {
         }
     }
 
-    fn keep(&mut self, granted: Option<Reservation>) -> Option<Metadata> {
+    fn keep(&mut self, granted: Option<Reservation<P>>) -> Option<Metadata<P>> {
         let reservation = granted?;
         let metadata = reservation.metadata().clone();
         self.held.insert(*reservation.public_key(), reservation);
@@ -86,7 +86,7 @@ impl Real {
     }
 
     // The result of the verifier for the infos of a frame.
-    fn judged(&self, payload: &Payload, now: Moment) -> Result<(), ValidateError> {
+    fn judged(&self, payload: &Payload<P>, now: Moment) -> Result<(), ValidateError> {
         match payload {
             Payload::Greeting(info) => self.verifier.validate_info(now, info, verify),
             Payload::Peers(infos) => self.verifier.validate(now, infos, verify),
@@ -94,7 +94,7 @@ impl Real {
         }
     }
 
-    fn answer_question(&self, question: &Call) -> String {
+    fn answer_question(&self, question: &Call<P>) -> String {
         let directory = self.node.directory();
         match question {
             Call::NextUnblock => shown(directory.next_unblock()),

@@ -1,12 +1,11 @@
 //! A frame, as the library and this crate's own decoder read it: both return the same value, or the
 //! same error.
 
-use crate::pair::testing::{info, key, setup};
-use crate::pair::{
-    BitVec, EncodedData, Error, Info, Key, Moment, Node, OrderedSet, Payload, PayloadConfig,
-    Received, Reservation, Setup, Signature, TrackedPeers,
+use p2p_directory::sized::testing::{info, key, setup};
+use p2p_directory::sized::{
+    Info, Node, OrderedSet, Pair, Payload, Received, Reservation, Setup, TrackedPeers,
 };
-use std::cell::RefCell;
+use p2p_directory::{BitVec, EncodedData, Error, Moment, PayloadConfig};
 use std::collections::BTreeMap;
 use std::slice;
 use std::time::Duration;
@@ -47,37 +46,40 @@ const MEMORY: &str = "there is memory";
 
 /// A node that has a set, and infos of its peers with timestamp 7. No frame changes it, since no
 /// signature is valid.
-struct Informed {
+struct Informed<P: Pair> {
     limits: PayloadConfig,
-    node: Node,
+    node: Node<P>,
     // One that is dropped is released.
-    _held: Vec<Reservation>,
+    _held: Vec<Reservation<P>>,
 }
 
-thread_local! {
-    static INFORMED: RefCell<[Informed; 2]> = RefCell::new(LIMITS.map(Informed::new));
-}
+/// Nodes with wide and with narrow limits.
+pub struct Frames<P: Pair>([Informed<P>; 2]);
 
-/// Passes in the frame under wide and narrow limits, with invalid and with valid signatures, and
-/// returns its payload under the wide ones. Panics if the library reads it differently from this
-/// crate.
-pub fn compare(frame: &[u8]) -> Option<Payload> {
-    let read = INFORMED.with_borrow_mut(|informed| {
-        let [wide, narrow] = informed;
-        narrow.compare(frame);
-        wide.compare(frame)
-    });
-    if let Some(payload) = &read {
-        compare_changes(frame, payload);
+impl<P: Pair> Frames<P> {
+    pub fn new() -> Frames<P> {
+        Frames(LIMITS.map(Informed::new))
     }
-    read
+
+    /// Passes in the frame under wide and narrow limits, with invalid and with valid signatures, and
+    /// returns its payload under the wide ones. Panics if the library reads it differently from this
+    /// crate.
+    pub fn compare(&mut self, frame: &[u8]) -> Option<Payload<P>> {
+        let [wide, narrow] = &mut self.0;
+        narrow.compare(frame);
+        let read = wide.compare(frame);
+        if let Some(payload) = &read {
+            compare_changes(frame, payload);
+        }
+        read
+    }
 }
 
-impl Informed {
-    fn new(limits: PayloadConfig) -> Informed {
+impl<P: Pair> Informed<P> {
+    fn new(limits: PayloadConfig) -> Informed<P> {
         let mut node = new_node(limits);
-        let held = meet(&mut node, (1..=PEERS).map(key), SHARED.map(key));
-        let infos: Vec<Info> = (1..=PEERS).map(|number| info(number, 7)).collect();
+        let held = meet(&mut node, (1..=PEERS).map(key::<P>), SHARED.map(key::<P>));
+        let infos: Vec<Info<P>> = (1..=PEERS).map(|number| info::<P>(number, 7)).collect();
         node.directory_mut().update_peers(&infos).expect(MEMORY);
         Informed {
             limits,
@@ -86,8 +88,8 @@ impl Informed {
         }
     }
 
-    fn compare(&mut self, frame: &[u8]) -> Option<Payload> {
-        let read = Payload::decode(frame, &self.limits);
+    fn compare(&mut self, frame: &[u8]) -> Option<Payload<P>> {
+        let read = Payload::<P>::decode(frame, &self.limits);
         let (asked, wanted) = match &read {
             Ok(payload) => (questions(payload), answer(payload, |_| false)),
             Err(fault) => (&[][..], Received::Codec(*fault)),
@@ -110,7 +112,7 @@ impl Informed {
             false
         });
         assert_eq!(received, wanted);
-        let first: Vec<Signature> = asked.iter().take(1).map(|info| info.signature).collect();
+        let first: Vec<P::Signature> = asked.iter().take(1).map(|info| info.signature).collect();
         assert_eq!(signatures, first);
         self.is_unchanged();
         let payload = read.ok()?;
@@ -124,13 +126,13 @@ impl Informed {
             bits: vec![false; usize::from(PEERS)],
         };
         let told = self.node.directory().infos(&nothing, NOW);
-        assert_eq!(told, Ok(Some(shared(&nothing))));
+        assert_eq!(told, Ok(Some(shared::<P>(&nothing))));
     }
 }
 
 // Passes the frame to a new node that is connected with all peers whose infos are in it, and
 // compares what it stores afterwards.
-fn compare_changes(frame: &[u8], payload: &Payload) {
+fn compare_changes<P: Pair>(frame: &[u8], payload: &Payload<P>) {
     let infos = infos_of(payload);
     if infos.is_empty() {
         return;
@@ -138,9 +140,9 @@ fn compare_changes(frame: &[u8], payload: &Payload) {
     let keys = || infos.iter().map(|info| info.public_key);
     let mut node = new_node(LIMITS[0]);
     let _held = meet(&mut node, keys(), keys());
-    let received = node.receive(frame, NOW, |asked| is_right(&asked.signature));
-    assert_eq!(received, answer(payload, is_right));
-    let mut newest: BTreeMap<Key, &Info> = BTreeMap::new();
+    let received = node.receive(frame, NOW, |asked| is_right::<P>(&asked.signature));
+    assert_eq!(received, answer(payload, is_right::<P>));
+    let mut newest: BTreeMap<P::Key, &Info<P>> = BTreeMap::new();
     if matches!(received, Received::Greeted(_) | Received::Applied(_)) {
         for info in infos {
             let known = newest.entry(info.public_key).or_insert(info);
@@ -149,34 +151,34 @@ fn compare_changes(frame: &[u8], payload: &Payload) {
             }
         }
     }
-    for peer in keys().filter(|peer| *peer != key(OWN)) {
+    for peer in keys().filter(|peer| *peer != key::<P>(OWN)) {
         let held = node.directory().info(&peer).expect(MEMORY);
         assert_eq!(held.as_ref(), newest.get(&peer).copied());
     }
 }
 
 // Accepts half of all signatures, whatever they are, so that many are valid.
-fn is_right(signature: &Signature) -> bool {
-    signature.0[0].is_multiple_of(2)
+fn is_right<P: Pair>(signature: &P::Signature) -> bool {
+    signature.as_ref()[0].is_multiple_of(2)
 }
 
-fn new_node(payload: PayloadConfig) -> Node {
+fn new_node<P: Pair>(payload: PayloadConfig) -> Node<P> {
     let setup = Setup {
         payload,
         peer_gossip_max_count: MOST_INFOS,
         ..setup(OWN)
     };
-    Node::new(&setup).expect(MEMORY)
+    Node::<P>::new(&setup).expect(MEMORY)
 }
 
 // Tracks these peers, and connects those.
-fn meet(
-    node: &mut Node,
-    peers: impl Iterator<Item = Key>,
-    connected: impl IntoIterator<Item = Key>,
-) -> Vec<Reservation> {
+fn meet<P: Pair>(
+    node: &mut Node<P>,
+    peers: impl Iterator<Item = P::Key>,
+    connected: impl IntoIterator<Item = P::Key>,
+) -> Vec<Reservation<P>> {
     let directory = node.directory_mut();
-    let peers = TrackedPeers::from(OrderedSet::from_iter_dedup(peers));
+    let peers = TrackedPeers::<P>::from(OrderedSet::<P>::from_iter_dedup(peers));
     let _ = directory.track(INDEX, &peers).expect(MEMORY);
     let mut held = Vec::new();
     for peer in connected {
@@ -189,7 +191,7 @@ fn meet(
     held
 }
 
-fn infos_of(payload: &Payload) -> &[Info] {
+fn infos_of<P: Pair>(payload: &Payload<P>) -> &[Info<P>] {
     match payload {
         Payload::Greeting(info) => slice::from_ref(info),
         Payload::Peers(infos) => infos,
@@ -199,7 +201,7 @@ fn infos_of(payload: &Payload) -> &[Info] {
 
 // The infos that have to be verified: up to the first that is refused for another reason, and none
 // if there are too many.
-fn questions(payload: &Payload) -> &[Info] {
+fn questions<P: Pair>(payload: &Payload<P>) -> &[Info<P>] {
     let infos = infos_of(payload);
     if infos.len() > MOST_INFOS {
         return &[];
@@ -208,9 +210,9 @@ fn questions(payload: &Payload) -> &[Info] {
     &infos[..refused.unwrap_or(infos.len())]
 }
 
-fn refusal(info: &Info, is_right: bool) -> Option<Error> {
+fn refusal<P: Pair>(info: &Info<P>, is_right: bool) -> Option<Error> {
     match info.public_key {
-        own if own == key(OWN) => Some(Error::ReceivedSelf),
+        own if own == key::<P>(OWN) => Some(Error::ReceivedSelf),
         _ if info.timestamp > LATEST => Some(Error::SynchronyBound),
         _ if !is_right => Some(Error::InvalidSignature),
         _ => None,
@@ -218,7 +220,7 @@ fn refusal(info: &Info, is_right: bool) -> Option<Error> {
 }
 
 // The result of a node that has the set, if these signatures are valid.
-fn answer(payload: &Payload, is_right: impl Fn(&Signature) -> bool) -> Received {
+fn answer<P: Pair>(payload: &Payload<P>, is_right: impl Fn(&P::Signature) -> bool) -> Received<P> {
     let infos = infos_of(payload);
     if infos.len() > MOST_INFOS {
         return Received::Invalid(Error::TooManyPeers(infos.len() as u64));
@@ -239,20 +241,20 @@ fn answer(payload: &Payload, is_right: impl Fn(&Signature) -> bool) -> Received 
         Payload::Greeting(info) => Received::Greeted(info.public_key),
         Payload::Peers(infos) => Received::Applied(infos.len()),
         Payload::BitVec(bits) if bits.index != INDEX => {
-            Received::Reply(Payload::Peers(Vec::new()).encode())
+            Received::Reply(Payload::<P>::Peers(Vec::new()).encode())
         }
         Payload::BitVec(bits) if bits.bits.len() != usize::from(PEERS) => Received::Malformed,
-        Payload::BitVec(bits) => Received::Reply(Payload::Peers(shared(bits)).encode()),
+        Payload::BitVec(bits) => Received::Reply(Payload::Peers(shared::<P>(bits)).encode()),
     }
 }
 
 // The infos that are sent to a peer that sent these bits of the set.
-fn shared(bits: &BitVec) -> Vec<Info> {
+fn shared<P: Pair>(bits: &BitVec) -> Vec<Info<P>> {
     let unknown = SHARED
         .into_iter()
         .filter(|number| !bits.bits[usize::from(*number) - 1]);
     let timestamp = |number| if number == OWN { 0 } else { 7 };
     unknown
-        .map(|number| info(number, timestamp(number)))
+        .map(|number| info::<P>(number, timestamp(number)))
         .collect()
 }

@@ -3,10 +3,9 @@
 
 use super::frames::{INDEX, LIMITS, PEERS};
 use super::widened::{bytes_of, widened_frame};
-use crate::pair::testing::{NAMESPACE, info, key, sign};
-use crate::pair::{
-    BitVec, Data, Hostname, Info, Ingress, KEY_SIZE, Payload, PayloadConfig, SIGNATURE_SIZE,
-};
+use p2p_directory::sized::testing::{NAMESPACE, info, key, sign};
+use p2p_directory::sized::{Info, Pair, Payload};
+use p2p_directory::{BitVec, Data, Hostname, Ingress, PayloadConfig};
 use std::fs;
 use std::net::{Ipv6Addr, SocketAddr};
 use std::path::Path;
@@ -47,11 +46,11 @@ const ADDRESSES: [&str; 3] = [
 const NUMBERS: [u64; 9] = [0, 127, 128, 253, 300, 1000, 12_345, 100_000, u64::MAX];
 
 /// All of them, without duplicates.
-pub fn frames() -> Vec<Vec<u8>> {
-    let payloads = [kinds(), numbered(), at_limits()].concat();
-    let spelled = payloads.iter().map(Payload::encode);
-    let raw = VECTORS.map(bytes).into_iter().chain(LABELS.map(named));
-    let mut frames: Vec<Vec<u8>> = spelled.chain(raw).chain(of_scripts()).collect();
+pub fn frames<P: Pair>() -> Vec<Vec<u8>> {
+    let payloads = [kinds::<P>(), numbered::<P>(), at_limits::<P>()].concat();
+    let spelled = payloads.iter().map(Payload::<P>::encode);
+    let raw = VECTORS.map(bytes).into_iter().chain(LABELS.map(named::<P>));
+    let mut frames: Vec<Vec<u8>> = spelled.chain(raw).chain(of_scripts::<P>()).collect();
     frames.sort();
     frames.dedup();
     frames
@@ -61,27 +60,27 @@ fn bytes(digits: &str) -> Vec<u8> {
     bytes_of(digits).expect("a vector has digits")
 }
 
-fn info_at(number: u16, ingress: Ingress, timestamp: u64) -> Info {
-    let key = key(number);
-    Info::sign(key, NAMESPACE, ingress, timestamp, |namespace, message| {
-        sign(&key, namespace, message)
+fn info_at<P: Pair>(number: u16, ingress: Ingress, timestamp: u64) -> Info<P> {
+    let key = key::<P>(number);
+    Info::<P>::sign(key, NAMESPACE, ingress, timestamp, |namespace, message| {
+        sign::<P>(&key, namespace, message)
     })
 }
 
-fn kinds() -> Vec<Payload> {
+fn kinds<P: Pair>() -> Vec<Payload<P>> {
     let version_6 = Ingress::from(SocketAddr::from((Ipv6Addr::LOCALHOST, 80)));
     let host = Hostname::new("node-1.a.example").expect("a name");
-    let named = |number| {
+    let at_name = |number| {
         let host = host.clone();
         info_at(number, Ingress::Dns { host, port: 80 }, 300)
     };
     let bits = |bits: Vec<bool>| BitVec { index: INDEX, bits };
     vec![
         Payload::Greeting(info(1, 1000)),
-        Payload::Greeting(named(3)),
+        Payload::Greeting(at_name(3)),
         Payload::Greeting(info_at(4, version_6.clone(), 300)),
         Payload::Peers([1, 2].map(|number| info(number, 7)).to_vec()),
-        Payload::Peers(vec![named(3), info_at(5, version_6, 300), named(9)]),
+        Payload::Peers(vec![at_name(3), info_at(5, version_6, 300), at_name(9)]),
         Payload::BitVec(bits(vec![true; usize::from(PEERS)])),
         Payload::BitVec(bits((0..PEERS).map(|place| place % 3 == 0).collect())),
         Payload::Data(Data {
@@ -92,7 +91,7 @@ fn kinds() -> Vec<Payload> {
 }
 
 // Infos with each address, and data, bits and infos with each number.
-fn numbered() -> Vec<Payload> {
+fn numbered<P: Pair>() -> Vec<Payload<P>> {
     let ingress = |digits| Ingress::decode(&bytes(digits)).expect("a vector of addresses");
     let greetings = ADDRESSES.map(|digits| Payload::Greeting(info_at(1, ingress(digits), 1000)));
     let mut payloads = greetings.to_vec();
@@ -108,7 +107,7 @@ fn numbered() -> Vec<Payload> {
 }
 
 // As much as the limits allow, and one more.
-fn at_limits() -> Vec<Payload> {
+fn at_limits<P: Pair>() -> Vec<Payload<P>> {
     let payloads = |limits: PayloadConfig, more: usize| {
         let infos = (1..).take(limits.max_peers + more);
         let bits = vec![true; limits.max_bit_vec as usize + more];
@@ -127,20 +126,20 @@ fn at_limits() -> Vec<Payload> {
 }
 
 // A greeting with a name of labels of these lengths. No key signed it.
-fn named(labels: &[usize]) -> Vec<u8> {
+fn named<P: Pair>(labels: &[usize]) -> Vec<u8> {
     let labels: Vec<String> = labels.iter().map(|length| "a".repeat(*length)).collect();
     let name = labels.join(".");
     let length = match name.len() as u8 {
         short @ ..128 => vec![short],
         long => vec![long, 1],
     };
-    let tail = [0; 3 + KEY_SIZE + SIGNATURE_SIZE];
+    let tail = vec![0; 3 + P::KEY_SIZE + P::SIGNATURE_SIZE];
     [&[1, 1], &length[..], name.as_bytes(), &tail].concat()
 }
 
 // The frames of the scripts: texts that encode three bytes or more, the first of which is a prefix.
 // There are none if this package is not in a clone of the repository.
-fn of_scripts() -> Vec<Vec<u8>> {
+fn of_scripts<P: Pair>() -> Vec<Vec<u8>> {
     let root = concat!(env!("CARGO_MANIFEST_DIR"), "/../..");
     if !Path::new(root).join("crates.txt").is_file() {
         return Vec::new();
@@ -157,7 +156,7 @@ fn of_scripts() -> Vec<Vec<u8>> {
         let words = text.split(|letter: char| !letter.is_ascii_alphanumeric());
         let frame = |word: &&str| word.len() >= 6 && word.starts_with('0');
         for frame in words.filter(frame).filter_map(bytes_of) {
-            frames.push(widened_frame(&frame).unwrap_or(frame));
+            frames.push(widened_frame::<P>(&frame).unwrap_or(frame));
         }
     }
     frames

@@ -1,20 +1,19 @@
 //! Tests of the running program, under valgrind.
 
+use p2p_directory::sized::Pair;
 use std::env;
 use std::process::Command;
 
-/// Runs these tests of a module under valgrind, if it is installed. Panics if it finds a leak or an
-/// invalid access.
-pub fn finds_nothing(module: &str, names: &[&str]) {
+/// Runs these tests of a pair of sizes under valgrind, if it is installed. Panics if it finds a leak
+/// or an invalid access.
+pub fn finds_nothing<P: Pair>(names: &[&str]) {
     if Command::new("valgrind").arg("--version").output().is_err() {
         println!("valgrind is not installed");
         return;
     }
     let test = env::current_exe().unwrap();
-    // Tests are named without the program's name, with which the path of a module begins.
-    let module = module.split_once("::").map(|(_, module)| module);
     for name in names {
-        let name = module.map_or_else(|| name.to_string(), |module| format!("{module}::{name}"));
+        let name = format!("keys{}_{}::{name}", P::KEY_SIZE, P::SIGNATURE_SIZE);
         let done = Command::new("valgrind")
             .args(["--quiet", "--error-exitcode=9", "--leak-check=full"])
             .args(["--errors-for-leak-kinds=definite,indirect"])

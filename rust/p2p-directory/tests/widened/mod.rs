@@ -1,8 +1,8 @@
 //! Frames of the scripts of `play`, whose keys and signatures have eight bytes each, with the wider
 //! ones of this crate.
 
-use crate::pair::testing::{key, sign};
-use crate::pair::{Info, KEY_SIZE, SIGNATURE_SIZE};
+use p2p_directory::sized::testing::{key, sign};
+use p2p_directory::sized::{Info, Pair};
 
 /// The namespaces in which the infos of the scripts' frames are signed.
 const NAMESPACES: [&[u8]; 2] = [b"rows", b"other"];
@@ -16,7 +16,7 @@ pub fn bytes_of(digits: &str) -> Option<Vec<u8>> {
 }
 
 /// The frame with wide keys and signatures, or `None` if it is none with infos.
-pub fn widened_frame(frame: &[u8]) -> Option<Vec<u8>> {
+pub fn widened_frame<P: Pair>(frame: &[u8]) -> Option<Vec<u8>> {
     let (head, mut infos) = match frame {
         [1, ..] => frame.split_at(1),
         [3, 1..=127, ..] => frame.split_at(2),
@@ -24,7 +24,7 @@ pub fn widened_frame(frame: &[u8]) -> Option<Vec<u8>> {
     };
     let mut widened = head.to_vec();
     while !infos.is_empty() {
-        let (info, rest) = widened_info(infos)?;
+        let (info, rest) = widened_info::<P>(infos)?;
         widened.extend(info.encode());
         infos = rest;
     }
@@ -32,7 +32,7 @@ pub fn widened_frame(frame: &[u8]) -> Option<Vec<u8>> {
 }
 
 // The first info, and the bytes after it.
-fn widened_info(bytes: &[u8]) -> Option<(Info, &[u8])> {
+fn widened_info<P: Pair>(bytes: &[u8]) -> Option<(Info<P>, &[u8])> {
     let ingress = match bytes {
         [0, 4, ..] => 8,
         [0, 6, ..] => 20,
@@ -43,16 +43,16 @@ fn widened_info(bytes: &[u8]) -> Option<(Info, &[u8])> {
     let (front, rest) = bytes.split_at(ingress + timestamp);
     let (number, rest) = rest.split_first_chunk::<8>()?;
     let (signature, rest) = rest.split_first_chunk::<8>()?;
-    let (mut head, tail) = ([0; KEY_SIZE - 8], [0; SIGNATURE_SIZE]);
-    head[0] = key(0).as_bytes()[0];
-    let mut info = Info::decode(&[front, &head, number, &tail].concat()).ok()?;
+    let (zero, tail) = (key::<P>(0), vec![0; P::SIGNATURE_SIZE]);
+    let head = &zero.as_ref()[..P::KEY_SIZE - 8];
+    let mut info = Info::<P>::decode(&[front, head, number, &tail].concat()).ok()?;
     let message = info.signed_bytes();
     let number = u64::from_be_bytes(*number);
     let signed_in = NAMESPACES.into_iter().find(|namespace| {
         narrow_signature(number, namespace, &message) == u64::from_be_bytes(*signature)
     });
     if let Some(namespace) = signed_in {
-        info.signature = sign(&info.public_key, namespace, &message);
+        info.signature = sign::<P>(&info.public_key, namespace, &message);
     }
     Some((info, rest))
 }
