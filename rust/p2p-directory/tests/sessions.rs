@@ -1,8 +1,8 @@
 //! The exports of the library, called with valid and with invalid requests.
 
+#[macro_use]
+mod each_pair;
 mod methods;
+mod random;
 mod session_tests;
 mod table;
-
-use p2p_directory as pair;
-use p2p_directory_sys as exports;

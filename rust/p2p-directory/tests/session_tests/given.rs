@@ -1,40 +1,37 @@
 //! The arguments of sessions: the setting of the worked examples, with keys of equal bytes.
 
-use super::LEAST_FIRST;
-use crate::exports::Session;
-use crate::pair::KEY_SIZE;
-use crate::pair::SIGNATURE_SIZE;
+use super::{Exported, Session, least_first};
 
 /// The key of such bytes, but the first if a key can't begin with each byte.
-pub(super) fn key(byte: u8) -> [u8; KEY_SIZE] {
-    let mut key = [byte; KEY_SIZE];
-    if LEAST_FIRST != 0 {
-        key[0] = LEAST_FIRST;
+pub(super) fn key<P: Exported>(byte: u8) -> Vec<u8> {
+    let mut key = vec![byte; P::KEY_SIZE];
+    if least_first::<P>() != 0 {
+        key[0] = least_first::<P>();
     }
     key
 }
 
 /// The keys of these bytes, one after the other.
-pub(super) fn keys(bytes: &[u8]) -> Vec<u8> {
-    bytes.iter().flat_map(|byte| key(*byte)).collect()
+pub(super) fn keys<P: Exported>(bytes: &[u8]) -> Vec<u8> {
+    bytes.iter().flat_map(|byte| key::<P>(*byte)).collect()
 }
 
 /// The info of a key at 1.2.3.4 and the port 8000 plus the key's byte, with a timestamp below 128.
-pub(super) fn info(byte: u8, timestamp: u8) -> Vec<u8> {
+pub(super) fn info<P: Exported>(byte: u8, timestamp: u8) -> Vec<u8> {
     let port = 8000 + u16::from(byte);
     let mut info = vec![0, 4, 1, 2, 3, 4];
     info.extend(port.to_be_bytes());
     info.push(timestamp);
-    info.extend(key(byte));
-    info.extend([byte; SIGNATURE_SIZE]);
+    info.extend(key::<P>(byte));
+    info.extend(vec![byte; P::SIGNATURE_SIZE]);
     info
 }
 
 /// The list of fewer than 128 infos with these keys and timestamps.
-pub(super) fn infos(told: &[(u8, u8)]) -> Vec<u8> {
+pub(super) fn infos<P: Exported>(told: &[(u8, u8)]) -> Vec<u8> {
     let mut infos = vec![told.len() as u8];
     for (byte, timestamp) in told {
-        infos.extend(info(*byte, *timestamp));
+        infos.extend(info::<P>(*byte, *timestamp));
     }
     infos
 }
@@ -63,7 +60,7 @@ pub(super) fn given(myself: &[u8]) -> Given<'_> {
 }
 
 /// Creates the node of a session.
-pub(super) fn init(session: &Session, given: &Given<'_>) -> u64 {
+pub(super) fn init<P: Exported>(session: &Session<P>, given: &Given<'_>) -> u64 {
     let [cooldown, block, bound] = given.nanos;
     session.init(
         true,
@@ -87,16 +84,16 @@ pub(super) fn init(session: &Session, given: &Given<'_>) -> u64 {
 }
 
 /// A session whose node has this key, and an info with the timestamp 0.
-pub(super) fn session(byte: u8) -> Session {
-    let session = Session::new().expect("memory for a session");
-    assert_eq!(init(&session, &given(&info(byte, 0))), 1);
+pub(super) fn session<P: Exported>(byte: u8) -> Session<P> {
+    let session = Session::<P>::new().expect("memory for a session");
+    assert_eq!(init::<P>(&session, &given(&info::<P>(byte, 0))), 1);
     session
 }
 
 /// A session with a registered set of these primary peers, with the index 0.
-pub(super) fn tracking(byte: u8, primary: &[u8]) -> Session {
-    let session = session(byte);
-    assert_eq!(session.track(0, &keys(primary), &[], &mut []), 0);
+pub(super) fn tracking<P: Exported>(byte: u8, primary: &[u8]) -> Session<P> {
+    let session = session::<P>(byte);
+    assert_eq!(session.track(0, &keys::<P>(primary), &[], &mut []), 0);
     session
 }
 

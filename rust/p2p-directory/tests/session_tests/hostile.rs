@@ -1,17 +1,22 @@
 //! Malformed requests: each is refused with its own number, nothing changes, and the buffer for the
 //! result stays as it was.
 
-use super::LEAST_FIRST;
-use crate::exports::Session;
-use crate::pair::testing;
-use crate::pair::{
-    Directory, Hostname, Info, Ingress, KEY_SIZE, Key, Moment, OrderedSet, Payload, PayloadConfig,
-};
+use super::{Exported, Session, least_first};
+use crate::random::Draws;
+use p2p_directory::sized::testing;
+use p2p_directory::sized::{Bytes, Directory, Info, OrderedSet, Payload};
+use p2p_directory::{Hostname, Ingress, Moment, PayloadConfig};
 use p2p_directory_sys::{
     BAD_BITS, BAD_INFO, BAD_KEY, BAD_KEYS, BAD_MOMENT, BAD_SETTING, BAD_VERDICTS, NO_NODE, NO_ROOM,
 };
 use std::collections::BTreeSet;
 use std::time::Duration;
+
+tests_of_each_pair! {
+    requests_that_are_no_commands_change_nothing,
+    spoilt_bootstrappers_make_a_node_or_none,
+    handles_come_and_go,
+}
 
 const REQUESTS: u32 = 100_000;
 
@@ -21,64 +26,31 @@ const LIMITS: PayloadConfig = PayloadConfig {
     max_data_length: 32,
 };
 
-// Pseudo-random numbers, the same in each run.
-struct Draws(u64);
-
 impl Draws {
-    fn number(&mut self) -> u64 {
-        self.0 ^= self.0 << 13;
-        self.0 ^= self.0 >> 7;
-        self.0 ^= self.0 << 17;
-        self.0
-    }
-
-    fn below(&mut self, end: u64) -> u64 {
-        self.number() % end
-    }
-
     fn bytes(&mut self, count: u64) -> Vec<u8> {
         (0..count).map(|_| self.number() as u8).collect()
     }
 
     // Bytes that are no key, since their length differs or no key begins with the first.
-    fn no_key(&mut self) -> Vec<u8> {
-        if LEAST_FIRST != 0 && self.below(2) == 0 {
-            let mut bytes = self.bytes(KEY_SIZE as u64);
+    fn no_key<P: Exported>(&mut self) -> Vec<u8> {
+        if least_first::<P>() != 0 && self.below(2) == 0 {
+            let mut bytes = self.bytes(P::KEY_SIZE as u64);
             // All but the two with which keys begin: from the one behind them on, and around.
-            bytes[0] = (LEAST_FIRST + 2).wrapping_add(self.below(254) as u8);
+            bytes[0] = (least_first::<P>() + 2).wrapping_add(self.below(254) as u8);
             return bytes;
         }
-        let count = self.below(3 * KEY_SIZE as u64);
-        let count = count + u64::from(count == KEY_SIZE as u64);
+        let count = self.below(3 * P::KEY_SIZE as u64);
+        let count = count + u64::from(count == P::KEY_SIZE as u64);
         self.bytes(count)
-    }
-
-    // A random byte, or one that often occurs in names, numbers and prefixes.
-    fn byte(&mut self) -> u8 {
-        const TELLING: &[u8] = b"a-.Z9\x00\x01\x02\x03\x04\x06\x7f\x80\xff";
-        match self.below(2) {
-            0 => self.number() as u8,
-            _ => TELLING[self.below(TELLING.len() as u64) as usize],
-        }
-    }
-
-    // A frame with up to three bytes replaced, removed or inserted.
-    fn spoilt(&mut self, frame: &[u8]) -> Vec<u8> {
-        let mut frame = frame.to_vec();
-        for _ in 0..self.below(4) {
-            let place = self.below(frame.len() as u64 + 1) as usize;
-            let byte = self.byte();
-            match self.below(3) {
-                0 if place < frame.len() => frame[place] = byte,
-                1 if place < frame.len() => drop(frame.remove(place)),
-                _ => frame.insert(place, byte),
-            }
-        }
-        frame
     }
 }
 
-fn init(session: &Session, max_sets: u64, bootstrappers: &[u8], myself: &[u8]) -> u64 {
+fn init<P: Exported>(
+    session: &Session<P>,
+    max_sets: u64,
+    bootstrappers: &[u8],
+    myself: &[u8],
+) -> u64 {
     session.init(
         true,
         true,
@@ -100,21 +72,21 @@ fn init(session: &Session, max_sets: u64, bootstrappers: &[u8], myself: &[u8]) -
     )
 }
 
-fn session() -> Session {
-    let session = Session::new().expect("memory for a session");
+fn session<P: Exported>() -> Session<P> {
+    let session = Session::<P>::new().expect("memory for a session");
     assert_eq!(session.tracked(), NO_NODE);
-    let myself = testing::info(9, 0).encode();
-    let init = |max_sets, myself: &[u8]| init(&session, max_sets, &[], myself);
-    assert_eq!(init(0, &myself), BAD_SETTING);
-    assert_eq!(init(u64::MAX, &myself), BAD_SETTING);
-    assert_eq!(init(1, &myself[1..]), BAD_INFO);
-    assert_eq!(init(1, &myself), 1);
-    assert_eq!(init(1, &myself), BAD_SETTING);
+    let myself = testing::info::<P>(9, 0).encode();
+    let made = |max_sets, myself: &[u8]| init::<P>(&session, max_sets, &[], myself);
+    assert_eq!(made(0, &myself), BAD_SETTING);
+    assert_eq!(made(u64::MAX, &myself), BAD_SETTING);
+    assert_eq!(made(1, &myself[1..]), BAD_INFO);
+    assert_eq!(made(1, &myself), 1);
+    assert_eq!(made(1, &myself), BAD_SETTING);
     session
 }
 
 // The state of a session, as far as its queries return it.
-fn seen(session: &Session) -> Vec<u8> {
+fn seen<P: Exported>(session: &Session<P>) -> Vec<u8> {
     let mut seen = Vec::new();
     let mut out = [0; 4096];
     for length in [
@@ -129,26 +101,27 @@ fn seen(session: &Session) -> Vec<u8> {
         seen.extend(out);
     }
     for number in 0..12 {
-        let status = session.status(testing::key(number).as_bytes());
+        let status = session.status(testing::key::<P>(number).as_ref());
         seen.extend(status.to_be_bytes());
     }
     seen
 }
 
 // A malformed request of some call, with its expected result.
-fn request(session: &Session, draws: &mut Draws, out: &mut [u8]) -> (u64, u64) {
-    let key = *testing::key(1).as_bytes();
-    let wrong = draws.no_key();
+fn request<P: Exported>(session: &Session<P>, draws: &mut Draws, out: &mut [u8]) -> (u64, u64) {
+    let key = testing::key::<P>(1);
+    let key = key.as_ref();
+    let wrong = draws.no_key::<P>();
     let nanos = 1_000_000_000 + draws.below(1 << 31) as u32;
     match draws.below(24) {
         0 => (session.dial(&wrong, 1, 0, 0, 0), BAD_KEY),
-        1 => (session.dial(&key, 1, nanos, 0, 0), BAD_MOMENT),
+        1 => (session.dial(key, 1, nanos, 0, 0), BAD_MOMENT),
         2 => (session.listen(&wrong, 1, 0, 0, 0), BAD_KEY),
-        3 => (session.listen(&key, 1, 0, 0, nanos), BAD_MOMENT),
+        3 => (session.listen(key, 1, 0, 0, nanos), BAD_MOMENT),
         4 => (session.connect(&wrong, true), BAD_KEY),
         5 => (session.release(&wrong), BAD_KEY),
         6 => (session.block(&wrong, 1, 0), BAD_KEY),
-        7 => (session.block(&key, 1, nanos), BAD_MOMENT),
+        7 => (session.block(key, 1, nanos), BAD_MOMENT),
         8 => (session.unblock_expired(1, nanos), BAD_MOMENT),
         9 => (session.forget_cooled(1, nanos), BAD_MOMENT),
         10 => (session.blocked_peers(1, nanos, out), BAD_MOMENT),
@@ -156,108 +129,110 @@ fn request(session: &Session, draws: &mut Draws, out: &mut [u8]) -> (u64, u64) {
         12 => (session.info(&wrong, out), BAD_KEY),
         13 => (session.reservation(&wrong, out), BAD_KEY),
         14 => (session.eligible(&wrong, 1, 0), BAD_KEY),
-        15 => (session.acceptable(&key, 1, nanos), BAD_MOMENT),
+        15 => (session.acceptable(key, 1, nanos), BAD_MOMENT),
         16 => (session.dialable(1, nanos, out), BAD_MOMENT),
-        _ => request_with_lists(session, draws, nanos, out),
+        _ => request_with_lists::<P>(session, draws, nanos, out),
     }
 }
 
 // The same, for a call that takes keys, infos, bits or a frame.
-fn request_with_lists(
-    session: &Session,
+fn request_with_lists<P: Exported>(
+    session: &Session<P>,
     draws: &mut Draws,
     nanos: u32,
     out: &mut [u8],
 ) -> (u64, u64) {
-    let key = *testing::key(1).as_bytes();
+    let key = testing::key::<P>(1);
+    let key = key.as_ref();
     match draws.below(7) {
         0 => {
-            let count = 1 + draws.below(KEY_SIZE as u64 - 1);
-            let keys = draws.bytes(3 * KEY_SIZE as u64 + count);
+            let count = 1 + draws.below(P::KEY_SIZE as u64 - 1);
+            let keys = draws.bytes(3 * P::KEY_SIZE as u64 + count);
             let (primary, secondary) = match draws.below(2) {
-                0 => (&key[..], &keys[..]),
-                _ => (&keys[..], &key[..]),
+                0 => (key, &keys[..]),
+                _ => (&keys[..], key),
             };
             (session.track(7, primary, secondary, out), BAD_KEYS)
         }
-        1 => (session.track(7, &key, &key, &mut []), NO_ROOM),
+        1 => (session.track(7, key, key, &mut []), NO_ROOM),
         2 => {
             let count = draws.below(200);
-            let bytes = no_infos(draws.bytes(count));
+            let bytes = no_infos::<P>(draws.bytes(count));
             (session.update_peers(&bytes), BAD_INFO)
         }
         3 => {
             let count = draws.below(40);
-            let bytes = no_bits(draws.bytes(count));
+            let bytes = no_bits::<P>(draws.bytes(count));
             (session.infos(&bytes, 1, 0, out), BAD_BITS)
         }
-        4 => (session.check(&key, 1, nanos, out), BAD_MOMENT),
+        4 => (session.check(key, 1, nanos, out), BAD_MOMENT),
         5 => {
-            let frame = Payload::Greeting(testing::info(1, 0)).encode();
+            let frame = Payload::Greeting(testing::info::<P>(1, 0)).encode();
             let count = draws.below(5);
             let verdicts = draws.bytes(count + u64::from(count == 1));
             let answer = session.receive(&frame, 1, 0, &verdicts, out);
             (answer, BAD_VERDICTS)
         }
         _ => {
-            let answer = session.receive(&key, 1, 0, &[], &mut []);
+            let answer = session.receive(key, 1, 0, &[], &mut []);
             (answer, NO_ROOM)
         }
     }
 }
 
 // Returns the bytes, or others if they are what follows this prefix in a frame.
-fn no_value(prefix: u8, bytes: Vec<u8>) -> Vec<u8> {
+fn no_value<P: Exported>(prefix: u8, bytes: Vec<u8>) -> Vec<u8> {
     const UNLIMITED: PayloadConfig = PayloadConfig {
         max_bit_vec: u32::MAX as u64,
         max_peers: usize::MAX,
         max_data_length: 0,
     };
     let frame = [&[prefix], &bytes[..]].concat();
-    match Payload::decode(&frame, &UNLIMITED) {
+    match Payload::<P>::decode(&frame, &UNLIMITED) {
         Ok(_) => vec![1],
         Err(_) => bytes,
     }
 }
 
 // Bytes that encode no infos: the prefix 3 begins a frame of infos.
-fn no_infos(bytes: Vec<u8>) -> Vec<u8> {
-    no_value(3, bytes)
+fn no_infos<P: Exported>(bytes: Vec<u8>) -> Vec<u8> {
+    no_value::<P>(3, bytes)
 }
 
 // Bytes that encode no bit set: the prefix 2 begins a frame of one.
-fn no_bits(bytes: Vec<u8>) -> Vec<u8> {
-    no_value(2, bytes)
+fn no_bits<P: Exported>(bytes: Vec<u8>) -> Vec<u8> {
+    no_value::<P>(2, bytes)
 }
 
-#[test]
-fn requests_that_are_no_commands_change_nothing() {
-    let session = session();
+fn requests_that_are_no_commands_change_nothing<P: Exported>() {
+    let session = session::<P>();
     let peers = [1, 2, 3]
-        .map(|number| *testing::key(number).as_bytes())
+        .map(testing::key::<P>)
+        .each_ref()
+        .map(AsRef::as_ref)
         .concat();
     let mut torn = [0; 512];
     assert_eq!(session.track(1, &peers, &[], &mut torn), 0);
-    assert_eq!(session.listen(testing::key(1).as_bytes(), 1, 0, 0, 0), 1);
-    assert_eq!(session.block(testing::key(2).as_bytes(), 1, 0), 1);
-    let before = seen(&session);
+    assert_eq!(session.listen(testing::key::<P>(1).as_ref(), 1, 0, 0, 0), 1);
+    assert_eq!(session.block(testing::key::<P>(2).as_ref(), 1, 0), 1);
+    let before = seen::<P>(&session);
     let mut draws = Draws(0x9e37_79b9_7f4a_7c15);
     for _ in 0..REQUESTS {
         let mut out = [0xaa; 512];
-        let (answer, wanted) = request(&session, &mut draws, &mut out);
+        let (answer, wanted) = request::<P>(&session, &mut draws, &mut out);
         assert_eq!(answer, wanted);
         assert!(out.iter().all(|byte| *byte == 0xaa));
     }
-    assert_eq!(seen(&session), before);
+    assert_eq!(seen::<P>(&session), before);
 }
 
 // The keys of encoded bootstrappers, or `None` if the bytes encode none.
-fn bootstrappers(bytes: &[u8]) -> Option<BTreeSet<Key>> {
+fn bootstrappers<P: Exported>(bytes: &[u8]) -> Option<BTreeSet<P::Key>> {
     let mut keys = BTreeSet::new();
     let mut rest = bytes;
     while !rest.is_empty() {
-        let (key, after) = rest.split_at_checked(KEY_SIZE)?;
-        keys.insert(Key::try_from(key).ok()?);
+        let (key, after) = rest.split_at_checked(P::KEY_SIZE)?;
+        keys.insert(P::Key::of_bytes(key)?);
         let encodes = |length: &usize| Ingress::decode(&after[..*length]).is_ok();
         let length = (1..=after.len()).find(encodes)?;
         rest = &after[length..];
@@ -266,56 +241,60 @@ fn bootstrappers(bytes: &[u8]) -> Option<BTreeSet<Key>> {
 }
 
 // An info with a name.
-fn named(number: u16) -> Info {
+fn named<P: Exported>(number: u16) -> Info<P> {
     let host = Hostname::new("node-1.a.example").expect("a name");
     let ingress = Ingress::Dns { host, port: 80 };
-    let key = testing::key(number);
-    Info::sign(
+    let key = testing::key::<P>(number);
+    Info::<P>::sign(
         key,
         testing::NAMESPACE,
         ingress,
         300,
-        |namespace, message| testing::sign(&key, namespace, message),
+        |namespace, message| testing::sign::<P>(&key, namespace, message),
     )
 }
 
-#[test]
-fn spoilt_bootstrappers_make_a_node_or_none() {
-    let myself = testing::info(9, 0).encode();
-    let infos = [testing::info(1, 0), named(3), testing::info(9, 0)];
+fn spoilt_bootstrappers_make_a_node_or_none<P: Exported>() {
+    let myself = testing::info::<P>(9, 0).encode();
+    let infos = [
+        testing::info::<P>(1, 0),
+        named::<P>(3),
+        testing::info::<P>(9, 0),
+    ];
     let spelled = infos.map(|info| [info.public_key.as_ref(), &info.ingress.encode()].concat());
     let spelled = spelled.concat();
     let mut draws = Draws(11);
     let mut made = 0;
     for _ in 0..REQUESTS / 10 {
         let spoilt = draws.spoilt(&spelled);
-        let session = Session::new().expect("memory for a session");
-        let answer = init(&session, 1, &spoilt, &myself);
-        let Some(mut keys) = bootstrappers(&spoilt) else {
+        let session = Session::<P>::new().expect("memory for a session");
+        let answer = init::<P>(&session, 1, &spoilt, &myself);
+        let Some(mut keys) = bootstrappers::<P>(&spoilt) else {
             assert_eq!((answer, session.tracked()), (BAD_INFO, NO_NODE));
             continue;
         };
-        keys.remove(&testing::key(9));
+        keys.remove(&testing::key::<P>(9));
         assert_eq!((answer, session.tracked()), (1, keys.len() as u64));
         made += 1;
     }
     assert!((REQUESTS / 40..REQUESTS / 10).contains(&made), "{made}");
 }
 
-#[test]
-fn handles_come_and_go() {
+fn handles_come_and_go<P: Exported>() {
     for round in 0..50 {
-        let mut directory: Directory = testing::directory();
-        let keys = (1..=40).map(testing::key);
-        let peers = OrderedSet::from_iter_dedup(keys).into();
+        let mut directory: Directory<P> = testing::directory::<P>();
+        let keys = (1..=40).map(testing::key::<P>);
+        let peers = OrderedSet::<P>::from_iter_dedup(keys).into();
         assert!(directory.track(round, &peers).unwrap().accepted().is_some());
-        let infos: Vec<Info> = (1..=40).map(|number| testing::info(number, 5)).collect();
+        let infos: Vec<Info<P>> = (1..=40)
+            .map(|number| testing::info::<P>(number, 5))
+            .collect();
         directory.update_peers(&infos).unwrap();
         let now = Moment::from_secs(1);
-        let held = directory.dial(&testing::key(1), now, Duration::ZERO);
+        let held = directory.dial(&testing::key::<P>(1), now, Duration::ZERO);
         assert!(held.unwrap().is_some());
         // It is dropped with its open reservations, on another thread.
         std::thread::spawn(move || drop(directory)).join().unwrap();
-        drop(Session::new());
+        drop(Session::<P>::new());
     }
 }
