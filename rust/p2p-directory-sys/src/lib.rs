@@ -55,8 +55,7 @@ pub mod sized {
     pub use crate::session::{Caller, Session};
 }
 
-/// The SHA-256 of the archive that is linked, or of the two, one behind the other. It is all zeros
-/// if none is.
+/// The SHA-256 of the archive that is linked. It is all zeros if none is.
 pub const ARCHIVE: [u8; 32] = match option_env!("P2P_SESSION_ARCHIVE") {
     Some(digits) => read_hash(digits.as_bytes()),
     None => [0; 32],
