@@ -5,6 +5,9 @@
 //! with all later ones. Nothing aborts, the call returns out of memory, and everything is as
 //! before.
 
+#[macro_use]
+#[path = "../each_pair/mod.rs"]
+mod each_pair;
 mod heap;
 #[allow(dead_code)]
 #[path = "../refused/questions.rs"]
@@ -13,22 +16,32 @@ mod questions;
 #[path = "../refused/state.rs"]
 mod state;
 
-use crate::pair::testing::{NAMESPACE, config, info, key, setup, verify};
-use crate::pair::{
-    BitVec, Data, Directory, Info, Ingress, Key, Metadata, Moment, OutOfMemory, Payload, Received,
-    SetupError, TrackedPeers, ValidateError,
-};
 use heap::{Refused, held, while_refused};
+use p2p_directory::sized::testing::{NAMESPACE, config, info, key, setup, verify};
+use p2p_directory::sized::{Directory, Info, Metadata, Pair, Payload, Received, TrackedPeers};
+use p2p_directory::{BitVec, Data, Ingress, Moment, OutOfMemory, SetupError, ValidateError};
 use questions::told;
 use state::{
     State, dialling, empty, introduced, known, named_info, new, peers, retaining, seconds,
 };
-// Where another file has this one as a module, the pair of sizes is that of the other.
-#[allow(unused_imports)]
-use p2p_directory as pair;
 use std::fmt::Debug;
 use std::sync::{Mutex, MutexGuard, PoisonError};
 use std::time::Duration;
+
+tests_of_each_pair! {
+    a_directory_is_made_or_refused,
+    sets_are_taken_or_refused,
+    grants_are_made_or_refused,
+    dropping_takes_no_memory,
+    there_is_room_for_as_many_as_are_held,
+    infos_are_offered_or_refused,
+    questions_are_answered_or_refused,
+    infos_are_judged_or_memory_is_refused,
+    long_answers_are_answered_or_refused,
+    frames_are_taken_or_refused,
+    buffers_are_given_back_after_a_large_frame,
+    buffers_are_given_back_after_a_large_set,
+}
 
 const NOW: Moment = Moment::from_secs(100);
 
@@ -39,15 +52,15 @@ fn alone() -> MutexGuard<'static, ()> {
     ALONE.lock().unwrap_or_else(PoisonError::into_inner)
 }
 
-type Call<A, T> = fn(&mut State, A) -> Result<T, OutOfMemory>;
+type Call<P, A, T> = fn(&mut State<P>, A) -> Result<T, OutOfMemory>;
 
 // Returns whether an allocation failed. If so, nothing has changed, and the call that is made again
 // returns what the first would have returned.
-fn is_refused<A: Clone, T: Debug + PartialEq>(
+fn is_refused<P: Pair, A: Clone, T: Debug + PartialEq>(
     plan: Refused,
-    prepared: fn() -> State,
+    prepared: fn() -> State<P>,
     argument: &A,
-    call: Call<A, T>,
+    call: Call<P, A, T>,
 ) -> bool {
     let (mut ample, mut state) = (prepared(), prepared());
     let answer = call(&mut ample, argument.clone());
@@ -69,11 +82,11 @@ fn is_refused<A: Clone, T: Debug + PartialEq>(
 
 // Fails each allocation in turn. There must be so many.
 #[track_caller]
-fn refuse_each<A: Clone, T: Debug + PartialEq>(
+fn refuse_each<P: Pair, A: Clone, T: Debug + PartialEq>(
     requests: u64,
-    prepared: fn() -> State,
+    prepared: fn() -> State<P>,
     argument: A,
-    call: Call<A, T>,
+    call: Call<P, A, T>,
 ) {
     for plan in [Refused::Only, Refused::From] {
         let places = 1..;
@@ -84,30 +97,29 @@ fn refuse_each<A: Clone, T: Debug + PartialEq>(
 }
 
 // Thirty peers, whose keys are longer than the initial buffer for results.
-fn many() -> State {
+fn many<P: Pair>() -> State<P> {
     let numbers: Vec<u16> = (10..40).collect();
-    retaining(2)
+    retaining::<P>(2)
         .tracks(0, &numbers, &[1, 2])
         .tracks(1, &[1, 2], &numbers)
 }
 
-fn bootstrappers() -> Vec<(Key, Ingress)> {
-    let named = named_info(2, 0, "a.b").ingress;
-    vec![(key(1), info(1, 0).ingress), (key(2), named)]
+fn bootstrappers<P: Pair>() -> Vec<(P::Key, Ingress)> {
+    let named = named_info::<P>(2, 0, "a.b").ingress;
+    vec![(key::<P>(1), info::<P>(1, 0).ingress), (key::<P>(2), named)]
 }
 
-#[test]
-fn a_directory_is_made_or_refused() {
+fn a_directory_is_made_or_refused<P: Pair>() {
     let _alone = alone();
-    let mut setup = setup(9);
-    setup.bootstrappers = bootstrappers();
+    let mut setup = setup::<P>(9);
+    setup.bootstrappers = bootstrappers::<P>();
     // More directories than lived at a time before. Each further one has a new slot for its dropped
     // reservations, and the list of slots, with capacity for 64, has to grow.
-    let kept: Vec<_> = (0..64).map(|_| empty()).collect();
+    let kept: Vec<_> = (0..64).map(|_| empty::<P>()).collect();
     let mut places = 1..;
     let made = places.find_map(|place| {
         let (made, refused) = while_refused(Refused::Only(place), || {
-            Directory::init(&setup.bootstrappers, &setup.myself, config())
+            Directory::<P>::init(&setup.bootstrappers, &setup.myself, config())
         });
         if refused == 0 {
             return Some((place, made.unwrap().tracked()));
@@ -121,35 +133,33 @@ fn a_directory_is_made_or_refused() {
     drop(kept);
     // A node has copies of its namespace and its greeting, and another buffer for results, and
     // finds a slot.
-    refuse_each(7, State::nothing, setup, State::make);
+    refuse_each::<P, _, _>(7, State::nothing, setup, State::make);
 }
 
-#[test]
-fn sets_are_taken_or_refused() {
+fn sets_are_taken_or_refused<P: Pair>() {
     let _alone = alone();
-    let take = |state: &mut State, (index, peers): (u64, TrackedPeers)| {
+    let take = |state: &mut State<P>, (index, peers): (u64, TrackedPeers<P>)| {
         state.directory_mut().track(index, &peers)
     };
     // The keys, primary and secondary. No peer must be disconnected.
-    refuse_each(2, empty, (0, peers(&[1, 2], &[3])), take);
+    refuse_each::<P, _, _>(2, empty, (0, peers::<P>(&[1, 2], &[3])), take);
     // There is capacity for the keys. The list of peers that must be disconnected has at most those
     // that are held.
-    refuse_each(1, known, (1, peers(&[1, 7], &[11])), take);
+    refuse_each::<P, _, _>(1, known, (1, peers::<P>(&[1, 7], &[11])), take);
     // No peer is held. The buffer for the keys of all thirty, as many as the library might return.
-    let thirty = || empty().tracks(0, &(10..40).collect::<Vec<u16>>(), &[]);
-    refuse_each(1, thirty, (1, peers(&[1], &[])), take);
+    let thirty = || empty::<P>().tracks(0, &(10..40).collect::<Vec<u16>>(), &[]);
+    refuse_each::<P, _, _>(1, thirty, (1, peers::<P>(&[1], &[])), take);
 }
 
-#[test]
-fn grants_are_made_or_refused() {
+fn grants_are_made_or_refused<P: Pair>() {
     let _alone = alone();
-    refuse_each(1, new, 1, |state, number| state.listen(number, NOW));
+    refuse_each::<P, _, _>(1, new, 1, |state, number| state.listen(number, NOW));
     // The capacity for a dropped reservation, and for a name.
-    refuse_each(2, introduced, 1, |state, number| state.dial(number, NOW));
+    refuse_each::<P, _, _>(2, introduced, 1, |state, number| state.dial(number, NOW));
     // The capacity for a name, which the first dial didn't need, is there for the second, which
     // needs it.
-    let wanted = Metadata::Dialer(key(2), named_info(2, 0, "a.b").ingress);
-    refuse_each(0, dialling, wanted, |state, wanted: Metadata| {
+    let wanted = Metadata::Dialer(key::<P>(2), named_info::<P>(2, 0, "a.b").ingress);
+    refuse_each::<P, _, _>(0, dialling, wanted, |state, wanted: Metadata<P>| {
         let is_granted = state.dial(2, NOW)?;
         let held = state.held().last().expect("it was granted");
         assert_eq!(held.metadata(), &wanted);
@@ -158,35 +168,33 @@ fn grants_are_made_or_refused() {
     // There is capacity for four, and all of them are held.
     let four = || {
         let numbers = [10, 11, 12, 13];
-        let state = empty().tracks(0, &[10, 11, 12, 13, 14], &[]);
+        let state = empty::<P>().tracks(0, &[10, 11, 12, 13, 14], &[]);
         numbers.into_iter().fold(state, State::listened)
     };
-    refuse_each(1, four, 14, |state, number| state.listen(number, NOW));
-    refuse_each(0, known, 5, |state, number| state.listen(number, NOW));
+    refuse_each::<P, _, _>(1, four, 14, |state, number| state.listen(number, NOW));
+    refuse_each::<P, _, _>(0, known, 5, |state, number| state.listen(number, NOW));
 }
 
-#[test]
-fn dropping_takes_no_memory() {
+fn dropping_takes_no_memory<P: Pair>() {
     let _alone = alone();
-    let mut state = new();
+    let mut state = new::<P>();
     let directory = state.directory_mut();
-    let granted = [1, 2].map(|number| directory.listen(&key(number), NOW, Duration::ZERO));
+    let granted = [1, 2].map(|number| directory.listen(&key::<P>(number), NOW, Duration::ZERO));
     let (statuses, refused) = while_refused(Refused::From(1), || {
         drop(granted);
-        [1, 2].map(|number| directory.status(&key(number)))
+        [1, 2].map(|number| directory.status(&key::<P>(number)))
     });
-    assert_eq!(statuses, [Some(crate::pair::Status::Inert); 2]);
+    assert_eq!(statuses, [Some(p2p_directory::Status::Inert); 2]);
     assert_eq!(refused, 0);
 }
 
-#[test]
-fn there_is_room_for_as_many_as_are_held() {
+fn there_is_room_for_as_many_as_are_held<P: Pair>() {
     let _alone = alone();
-    let mut state = new();
+    let mut state = new::<P>();
     let directory = state.directory_mut();
     let mut listen = |round: u32| {
         let now = NOW.saturating_add(round * Duration::from_secs(10));
-        let held = directory.listen(&key(1), now, Duration::ZERO);
+        let held = directory.listen(&key::<P>(1), now, Duration::ZERO);
         let held = held.expect("memory").expect("its cooldown is over");
         match round % 2 {
             0 => drop(held),
@@ -198,38 +206,44 @@ fn there_is_room_for_as_many_as_are_held() {
     assert_eq!(refused, 0);
 }
 
-#[test]
-fn infos_are_offered_or_refused() {
+fn infos_are_offered_or_refused<P: Pair>() {
     let _alone = alone();
-    let infos = vec![info(3, 2000), named_info(5, 2000, "c.d"), info(1, 2000)];
+    let infos = vec![
+        info::<P>(3, 2000),
+        named_info::<P>(5, 2000, "c.d"),
+        info::<P>(1, 2000),
+    ];
     // The encoding of all infos.
-    refuse_each(
+    refuse_each::<P, _, _>(
         1,
-        || introduced().tracks(1, &[1, 3, 5], &[]),
+        || introduced::<P>().tracks(1, &[1, 3, 5], &[]),
         infos,
-        |state, infos: Vec<Info>| state.directory_mut().update_peers(&infos),
+        |state, infos: Vec<Info<P>>| state.directory_mut().update_peers(&infos),
     );
 }
 
-#[test]
-fn questions_are_answered_or_refused() {
+fn questions_are_answered_or_refused<P: Pair>() {
     let _alone = alone();
-    refuse_each(1, known, (), |state, ()| state.directory().dialable(NOW));
-    refuse_each(1, known, (), |state, ()| {
+    refuse_each::<P, _, _>(1, known, (), |state, ()| state.directory().dialable(NOW));
+    refuse_each::<P, _, _>(1, known, (), |state, ()| {
         state.directory().blocked_peers(NOW)
     });
-    refuse_each(1, known, (), |state, ()| state.directory().info(&key(2)));
-    refuse_each(0, known, (), |state, ()| state.directory().info(&key(1)));
-    refuse_each(1, known, (), |state, ()| {
+    refuse_each::<P, _, _>(1, known, (), |state, ()| {
+        state.directory().info(&key::<P>(2))
+    });
+    refuse_each::<P, _, _>(0, known, (), |state, ()| {
+        state.directory().info(&key::<P>(1))
+    });
+    refuse_each::<P, _, _>(1, known, (), |state, ()| {
         state.directory().get_random_bit_vec(0)
     });
-    refuse_each(1, known, (), |state, ()| state.node().ask(0));
+    refuse_each::<P, _, _>(1, known, (), |state, ()| state.node().ask(0));
     let everybody = || BitVec {
         index: 0,
         bits: vec![false; 4],
     };
     // Space for the result, the list, a name, and the frame: its prefix, and the infos after it.
-    refuse_each(5, known, everybody(), |state, bits: BitVec| {
+    refuse_each::<P, _, _>(5, known, everybody(), |state, bits: BitVec| {
         state.node().reply_at_most(&bits, NOW, 1, 0)
     });
     let nobody = BitVec {
@@ -237,16 +251,15 @@ fn questions_are_answered_or_refused() {
         bits: vec![false; 4],
     };
     // Space for the result, the list, and a name: there is capacity for the encoding of so few bits.
-    refuse_each(3, known, nobody, |state, bits: BitVec| {
+    refuse_each::<P, _, _>(3, known, nobody, |state, bits: BitVec| {
         state.directory().infos(&bits, NOW)
     });
 }
 
-#[test]
-fn infos_are_judged_or_memory_is_refused() {
+fn infos_are_judged_or_memory_is_refused<P: Pair>() {
     let _alone = alone();
-    let infos = [info(1, 0), named_info(2, 0, "a.b")];
-    let made = || Info::verifier(key(9), 2, Duration::ZERO, NAMESPACE);
+    let infos = [info::<P>(1, 0), named_info::<P>(2, 0, "a.b")];
+    let made = || Info::<P>::verifier(key::<P>(9), 2, Duration::ZERO, NAMESPACE);
     // Whether the creation fails. If not, the verifier fails once with an allocation, and then
     // succeeds.
     let is_refused = |plan| {
@@ -268,41 +281,39 @@ fn infos_are_judged_or_memory_is_refused() {
     assert!(count > 0);
 }
 
-#[test]
-fn long_answers_are_answered_or_refused() {
+fn long_answers_are_answered_or_refused<P: Pair>() {
     let _alone = alone();
     // A longer buffer for results, and two lists.
-    refuse_each(3, many, (), |state, ()| state.directory().get_peer_set(0));
-    refuse_each(2, many, (), |state, ()| state.directory().all());
+    refuse_each::<P, _, _>(3, many, (), |state, ()| state.directory().get_peer_set(0));
+    refuse_each::<P, _, _>(2, many, (), |state, ()| state.directory().all());
     // And four lists, one of which is empty.
-    refuse_each(4, many, (), |state, ()| state.directory().latest_update());
+    refuse_each::<P, _, _>(4, many, (), |state, ()| state.directory().latest_update());
 }
 
-#[test]
-fn frames_are_taken_or_refused() {
+fn frames_are_taken_or_refused<P: Pair>() {
     let _alone = alone();
-    let take = |state: &mut State, frame: Vec<u8>| state.receive(&frame, NOW);
-    let greeting = Payload::Greeting(named_info(5, 2000, "c.d")).encode();
-    refuse_each(1, new, greeting, take);
-    let infos = vec![info(3, 2000), info(5, 2000)];
-    refuse_each(1, known, Payload::Peers(infos.clone()).encode(), take);
+    let take = |state: &mut State<P>, frame: Vec<u8>| state.receive(&frame, NOW);
+    let greeting = Payload::Greeting(named_info::<P>(5, 2000, "c.d")).encode();
+    refuse_each::<P, _, _>(1, new, greeting, take);
+    let infos = vec![info::<P>(3, 2000), info::<P>(5, 2000)];
+    refuse_each::<P, _, _>(1, known, Payload::Peers(infos.clone()).encode(), take);
     let bits = BitVec {
         index: 0,
         bits: vec![false; 4],
     };
-    refuse_each(1, known, Payload::BitVec(bits).encode(), take);
+    refuse_each::<P, _, _>(1, known, Payload::<P>::BitVec(bits).encode(), take);
     let data = |length| {
         let message = vec![7; length];
-        Payload::Data(Data {
+        Payload::<P>::Data(Data {
             channel: 1,
             message,
         })
         .encode()
     };
-    refuse_each(0, known, data(100), take);
-    refuse_each(0, known, vec![4], take);
+    refuse_each::<P, _, _>(0, known, data(100), take);
+    refuse_each::<P, _, _>(0, known, vec![4], take);
     // In two steps: the questions and a verification result for each info.
-    refuse_each(
+    refuse_each::<P, _, _>(
         2,
         known,
         Payload::Peers(infos).encode(),
@@ -317,17 +328,16 @@ fn frames_are_taken_or_refused() {
     );
 }
 
-#[test]
-fn buffers_are_given_back_after_a_large_frame() {
+fn buffers_are_given_back_after_a_large_frame<P: Pair>() {
     let _alone = alone();
     const LARGE: usize = 1 << 20;
     // The maximum capacity that a buffer keeps.
     const KEPT: isize = 64 << 10;
-    let mut setup = setup(9);
+    let mut setup = setup::<P>(9);
     setup.payload.max_data_length = LARGE;
     let mut state = State::of(setup);
     let message = vec![7; LARGE];
-    let frame = Payload::Data(Data {
+    let frame = Payload::<P>::Data(Data {
         channel: 1,
         message,
     })
@@ -342,18 +352,17 @@ fn buffers_are_given_back_after_a_large_frame() {
     }
     let kept = held() - before;
     assert!(kept <= KEPT, "{kept} bytes");
-    let greeting = Payload::Greeting(info(1, 1000)).encode();
+    let greeting = Payload::Greeting(info::<P>(1, 1000)).encode();
     let greeted = state.receive(&greeting, seconds(1));
-    assert_eq!(greeted, Ok(Received::Greeted(key(1))));
+    assert_eq!(greeted, Ok(Received::Greeted(key::<P>(1))));
 }
 
-#[test]
-fn buffers_are_given_back_after_a_large_set() {
+fn buffers_are_given_back_after_a_large_set<P: Pair>() {
     let _alone = alone();
     const KEPT: isize = 64 << 10;
     let numbers: Vec<u16> = (1..=4000).collect();
-    let set = peers(&numbers, &[]);
-    let mut state = empty();
+    let set = peers::<P>(&numbers, &[]);
+    let mut state = empty::<P>();
     let before = held();
     let taken = state.directory_mut().track(0, &set.clone()).unwrap();
     assert!(taken.accepted().is_some());

@@ -2,11 +2,19 @@
 
 use super::heap::{Refused, held, while_refused};
 use super::state::{State, empty, seconds};
-use crate::pair::testing::{info, key, setup, verify};
-use crate::pair::{
-    Hostname, Ingress, Moment, Node, OrderedSet, OutOfMemory, Payload, Received, Reservation,
-};
+use p2p_directory::sized::testing::{info, key, setup, verify};
+use p2p_directory::sized::{Node, OrderedSet, Pair, Payload, Received, Reservation};
+use p2p_directory::{Hostname, Ingress, Moment, OutOfMemory};
 use std::time::Duration;
+
+tests_of_each_pair! {
+    a_node_keeps_nothing_of_whom_it_released,
+    a_node_keeps_nothing_of_whom_it_turned_away,
+    a_node_keeps_nothing_of_whom_it_refused_for_memory,
+    blocks_that_are_renewed_keep_no_ends,
+    a_node_gives_back_what_reservations_took,
+    a_short_frame_takes_little_memory,
+}
 
 const ROUNDS: u16 = 10_000;
 
@@ -20,16 +28,16 @@ const MOMENT: u64 = 3;
 const FEW: usize = 4_096;
 
 // A node with so many primary peers, from 10 on.
-fn many() -> State {
-    let mut state = empty();
-    let peers = OrderedSet::from_iter_dedup((10..10 + ROUNDS).map(key)).into();
+fn many<P: Pair>() -> State<P> {
+    let mut state = empty::<P>();
+    let peers = OrderedSet::<P>::from_iter_dedup((10..10 + ROUNDS).map(key::<P>)).into();
     let _ = state.directory_mut().track(0, &peers).unwrap();
     state
 }
 
 // A dial of the peer isn't granted, since its address isn't known. The peer is accepted, not
 // granted again, and released.
-fn cycles(state: &mut State, number: u16) {
+fn cycles<P: Pair>(state: &mut State<P>, number: u16) {
     let now = seconds(100);
     assert_eq!(state.dial(number, now), Ok(false), "{number}");
     assert_eq!(state.listen(number, now), Ok(true), "{number}");
@@ -39,9 +47,8 @@ fn cycles(state: &mut State, number: u16) {
 }
 
 // Another peer connects and leaves in each round.
-#[test]
-fn a_node_keeps_nothing_of_whom_it_released() {
-    let mut state = many();
+fn a_node_keeps_nothing_of_whom_it_released<P: Pair>() {
+    let mut state = many::<P>();
     cycles(&mut state, 10);
     let before = held();
     let ((), asked) = while_refused(Refused::None, || {
@@ -52,9 +59,8 @@ fn a_node_keeps_nothing_of_whom_it_released() {
 }
 
 // The same holds if a stranger is refused.
-#[test]
-fn a_node_keeps_nothing_of_whom_it_turned_away() {
-    let mut state = many();
+fn a_node_keeps_nothing_of_whom_it_turned_away<P: Pair>() {
+    let mut state = many::<P>();
     cycles(&mut state, 10);
     let before = held();
     for number in 10 + ROUNDS..10 + 2 * ROUNDS {
@@ -65,7 +71,7 @@ fn a_node_keeps_nothing_of_whom_it_turned_away() {
     assert_eq!(held(), before);
 }
 
-fn refuses_listener(state: &mut State, number: u16, plan: Refused) {
+fn refuses_listener<P: Pair>(state: &mut State<P>, number: u16, plan: Refused) {
     let listen = || state.listen(number, seconds(100));
     let (answer, asked) = while_refused(plan, listen);
     assert_eq!(answer, Err(OutOfMemory), "{number}: {asked:?}");
@@ -73,9 +79,8 @@ fn refuses_listener(state: &mut State, number: u16, plan: Refused) {
 
 // The same holds if allocations for inbound peers fail: first for their slots, then for their
 // times. The space for slots that the first of these allocated is kept.
-#[test]
-fn a_node_keeps_nothing_of_whom_it_refused_for_memory() {
-    let mut state = (10..10 + FULL).fold(many(), State::listened);
+fn a_node_keeps_nothing_of_whom_it_refused_for_memory<P: Pair>() {
+    let mut state = (10..10 + FULL).fold(many::<P>(), State::listened);
     for place in [SLOT, MOMENT] {
         refuses_listener(&mut state, 10 + FULL, Refused::Only(place));
         let before = held();
@@ -89,13 +94,12 @@ fn a_node_keeps_nothing_of_whom_it_refused_for_memory() {
 
 // In each round one of three peers is blocked again after its block, of a minute, has ended. Ended
 // blocks aren't removed.
-#[test]
-fn blocks_that_are_renewed_keep_no_ends() {
-    let mut state = empty();
+fn blocks_that_are_renewed_keep_no_ends<P: Pair>() {
+    let mut state = empty::<P>();
     let directory = state.directory_mut();
     let ((), asked) = while_refused(Refused::None, || {
         for round in 0..ROUNDS {
-            let taken = directory.block(&key(10 + round % 3), seconds(30 * u64::from(round)));
+            let taken = directory.block(&key::<P>(10 + round % 3), seconds(30 * u64::from(round)));
             assert_eq!(taken, Ok(true), "{round}");
         }
     });
@@ -108,15 +112,14 @@ fn blocks_that_are_renewed_keep_no_ends() {
 }
 
 // The memory that a node holds for reservations is freed with them.
-#[test]
-fn a_node_gives_back_what_reservations_took() {
-    let mut state = many();
+fn a_node_gives_back_what_reservations_took<P: Pair>() {
+    let mut state = many::<P>();
     cycles(&mut state, 10);
     let before = held();
     let directory = state.directory_mut();
-    let granted: Vec<Reservation> = (10..1_010)
+    let granted: Vec<Reservation<P>> = (10..1_010)
         .map(|number| {
-            let granted = directory.listen(&key(number), seconds(100), Duration::ZERO);
+            let granted = directory.listen(&key::<P>(number), seconds(100), Duration::ZERO);
             granted.unwrap().expect("it is granted")
         })
         .collect();
@@ -130,15 +133,15 @@ fn a_node_gives_back_what_reservations_took() {
 
 // The frames that nodes send to each other: bits, messages, greetings with a socket and with a
 // name, and infos.
-fn frames() -> Vec<Vec<u8>> {
-    let mut named = info(2, 1000);
+fn frames<P: Pair>() -> Vec<Vec<u8>> {
+    let mut named = info::<P>(2, 1000);
     named.ingress = Ingress::Dns {
         host: Hostname::new("a.b").unwrap(),
         port: 8002,
     };
-    let infos = [info(1, 100_000), named.clone()];
+    let infos = [info::<P>(1, 100_000), named.clone()];
     let spelled = [
-        Payload::Greeting(info(1, 1000)),
+        Payload::Greeting(info::<P>(1, 1000)),
         Payload::Greeting(named),
         Payload::Peers(Vec::new()),
         Payload::Peers(infos[..1].to_vec()),
@@ -152,17 +155,17 @@ fn frames() -> Vec<Vec<u8>> {
         b"\0\x01\x05hello",
     ];
     let plain = plain.into_iter().map(<[u8]>::to_vec);
-    let spelled = spelled.iter().map(Payload::encode);
+    let spelled = spelled.iter().map(Payload::<P>::encode);
     plain.chain(spelled).collect()
 }
 
 // Frames whose counts and lengths are the greatest that a node with the greatest limits allows,
 // with or without bytes after them.
-fn hostile_frames() -> Vec<Vec<u8>> {
+fn hostile_frames<P: Pair>() -> Vec<Vec<u8>> {
     const GREATEST: &[u8] = &[0xff, 0xff, 0xff, 0xff, 0x0f];
     const INDEX: &[u8] = &[0xff, 0xff, 0xff, 0xff, 0xff, 0xff, 0xff, 0xff, 0xff, 0x01];
-    let socket = info(1, 100_000).encode();
-    let mut long_name = Payload::Greeting(info(2, 1000)).encode();
+    let socket = info::<P>(1, 100_000).encode();
+    let mut long_name = Payload::Greeting(info::<P>(2, 1000)).encode();
     long_name.splice(1..9, *b"\x01\xfd\x01a.b\x1f\x42");
     vec![
         [&[0, 1], GREATEST].concat(),
@@ -200,16 +203,15 @@ fn with_changes(frame: &[u8]) -> Vec<Vec<u8>> {
 const BYTES_FOR_EACH: usize = 8;
 const BYTES_BESIDE: usize = 48;
 
-#[test]
-fn a_short_frame_takes_little_memory() {
-    let mut setup = setup(9);
+fn a_short_frame_takes_little_memory<P: Pair>() {
+    let mut setup = setup::<P>(9);
     setup.payload.max_bit_vec = u64::from(u32::MAX);
     setup.payload.max_peers = u32::MAX as usize;
     setup.payload.max_data_length = u32::MAX as usize;
     setup.peer_gossip_max_count = u32::MAX as usize;
-    let mut node = Node::new(&setup).unwrap();
+    let mut node = Node::<P>::new(&setup).unwrap();
     let mut tried = 0;
-    for frame in [frames(), hostile_frames()].iter().flatten() {
+    for frame in [frames::<P>(), hostile_frames::<P>()].iter().flatten() {
         for frame in with_changes(frame) {
             let receive = || node.receive(&frame, seconds(100), verify);
             let (received, asked) = while_refused(Refused::None, receive);

@@ -5,6 +5,10 @@
 //! the Nth allocation of a call fails, once alone and once with all later ones. The buffers of this
 //! crate itself are Rust's: `tests/host_memory` fails those.
 
+#[macro_use]
+#[path = "../each_pair/mod.rs"]
+mod each_pair;
+
 mod asked;
 mod bits;
 mod bounds;
@@ -14,30 +18,39 @@ mod heap;
 mod questions;
 mod state;
 
-use crate::pair::{KEY_SIZE, OutOfMemory, SIGNATURE_SIZE};
-use asked::QUESTIONS;
-use changes::CHANGES;
-use frames::{BAD_KEYS, FRAMES};
+use asked::questions;
+use changes::changes;
+use frames::{bad_keys, frames};
 use heap::{Refused, held, while_refused};
-use questions::{QUIET, quiet_answers, told, told_at_the_end};
+use p2p_directory::OutOfMemory;
+use p2p_directory::sized::Pair;
+use questions::{quiet_answers, quiet_calls, told, told_at_the_end};
 use state::{State, known};
-// Where another file has this one as a module, the pair of sizes is that of the other.
-#[allow(unused_imports)]
-use p2p_directory as pair;
+
+tests_of_each_pair! {
+    changes_are_made_or_refused,
+    questions_are_answered_or_refused,
+    frames_are_taken_or_refused,
+    calls_that_take_no_memory_answer_with_none_left,
+}
 
 /// By how many bytes a key is longer than one of 32 where it is kept, before what may be aligned to
 /// 16 bytes.
-const LONGER_KEY: usize = KEY_SIZE.next_multiple_of(16) - 32;
+const fn longer_key<P: Pair>() -> usize {
+    P::KEY_SIZE.next_multiple_of(16) - 32
+}
 
 /// By how many bytes an info is longer than one of such a key and a signature of 64 where it is
 /// kept.
-const LONGER_INFO: usize = (KEY_SIZE + SIGNATURE_SIZE).next_multiple_of(8) - 96;
+const fn longer_info<P: Pair>() -> usize {
+    (P::KEY_SIZE + P::SIGNATURE_SIZE).next_multiple_of(8) - 96
+}
 
 /// A call, in a state.
-struct Case {
+struct Case<P: Pair> {
     name: &'static str,
-    prepared: fn() -> State,
-    call: fn(&mut State) -> Result<String, OutOfMemory>,
+    prepared: fn() -> State<P>,
+    call: fn(&mut State<P>) -> Result<String, OutOfMemory>,
     /// The result with enough memory.
     answer: fn() -> String,
     /// How many allocations it makes then.
@@ -47,7 +60,7 @@ struct Case {
     bytes: usize,
 }
 
-impl Case {
+impl<P: Pair> Case<P> {
     // The results of all queries after the call, and at the end, with enough memory.
     fn made(&self) -> [Vec<String>; 2] {
         let Case { name, bytes, .. } = self;
@@ -114,7 +127,7 @@ impl Case {
     }
 }
 
-fn refuse_each(cases: &[Case]) {
+fn refuse_each<P: Pair>(cases: &[Case<P>]) {
     for case in cases {
         for plan in [Refused::Only, Refused::From] {
             assert_eq!(case.refuses(plan), case.requests, "{}", case.name);
@@ -122,26 +135,22 @@ fn refuse_each(cases: &[Case]) {
     }
 }
 
-#[test]
-fn changes_are_made_or_refused() {
-    refuse_each(CHANGES);
+fn changes_are_made_or_refused<P: Pair>() {
+    refuse_each(&changes::<P>());
 }
 
-#[test]
-fn questions_are_answered_or_refused() {
-    refuse_each(QUESTIONS);
+fn questions_are_answered_or_refused<P: Pair>() {
+    refuse_each(&questions::<P>());
 }
 
-#[test]
-fn frames_are_taken_or_refused() {
-    refuse_each(FRAMES);
-    refuse_each(BAD_KEYS);
+fn frames_are_taken_or_refused<P: Pair>() {
+    refuse_each(&frames::<P>());
+    refuse_each(&bad_keys::<P>());
 }
 
-#[test]
-fn calls_that_take_no_memory_answer_with_none_left() {
-    let mut state = known();
-    for quiet in QUIET {
+fn calls_that_take_no_memory_answer_with_none_left<P: Pair>() {
+    let mut state = known::<P>();
+    for quiet in quiet_calls() {
         let (answer, asked) = while_refused(Refused::From(1), || (quiet.call)(&mut state));
         assert_eq!(answer, (quiet.answer)(), "{}", quiet.name);
         assert_eq!(asked.requests, 0, "{}", quiet.name);

@@ -1,9 +1,0 @@
-//! `tests/refused` over keys of 48 bytes and signatures of 96. It has a heap of its own.
-
-// These files are also a test program of their own.
-#![allow(clippy::duplicate_mod)]
-
-#[path = "refused/main.rs"]
-mod refused;
-
-use p2p_directory::keys48_96 as pair;
