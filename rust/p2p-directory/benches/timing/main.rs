@@ -9,36 +9,34 @@
 //! `cargo bench --bench timing -- SCENARIO N SAMPLES`. The program `timing` of the repository has
 //! the same words, for what no export reaches.
 
-// The measurements are the same for each pair of sizes.
-#![allow(clippy::duplicate_mod)]
-
 use std::env;
 use std::error::Error;
 use std::process::ExitCode;
 
-mod keys32_64;
-mod keys33_64;
-mod keys48_96;
-mod keys96_48;
+mod measured;
 mod times;
 
+use p2p_directory::Keys32_64;
+use p2p_directory::keys33_64::Keys33_64;
+use p2p_directory::keys48_96::Keys48_96;
+use p2p_directory::keys96_48::Keys96_48;
 use times::Times;
 
 type Outcome<T> = Result<T, Box<dyn Error>>;
 
 /// The measurements with keys of one pair of sizes.
-struct Pair {
+struct Measured {
     key_size: usize,
     measure_few: fn() -> Outcome<()>,
     measure_growth: fn() -> Outcome<()>,
     times_of: fn(&str, usize, usize) -> Outcome<Times>,
 }
 
-const PAIRS: [Pair; 4] = [
-    keys32_64::PAIR,
-    keys33_64::PAIR,
-    keys48_96::PAIR,
-    keys96_48::PAIR,
+const PAIRS: [Measured; 4] = [
+    measured::of::<Keys32_64>(),
+    measured::of::<Keys33_64>(),
+    measured::of::<Keys48_96>(),
+    measured::of::<Keys96_48>(),
 ];
 
 fn measure(words: &[&str]) -> Outcome<()> {

@@ -1,9 +1,10 @@
 //! An hour of a tracker.
 
 use super::made::{info, keys, node_of, tracked, verify};
-use super::pair::{BitVec, Key, Moment, Node, Payload, Received, Reservation, TrackedPeers};
 use crate::Outcome;
 use crate::times::Times;
+use p2p_directory::sized::{Node, Pair, Payload, Received, Reservation, TrackedPeers};
+use p2p_directory::{BitVec, Moment};
 use std::time::{Duration, Instant};
 
 /// The maximum number of connections.
@@ -37,21 +38,21 @@ impl Random {
 pub(crate) struct Parts(pub(crate) [Duration; 4]);
 
 /// A tracker, and how much it did.
-struct Tracker {
-    node: Node,
-    slots: Vec<Option<Reservation>>,
+struct Tracker<P: Pair> {
+    node: Node<P>,
+    slots: Vec<Option<Reservation<P>>>,
     done: usize,
 }
 
 /// What happens in a tick, chosen before the time is measured.
-struct Tick {
+struct Tick<P: Pair> {
     now: Moment,
-    new_set: Option<(u64, TrackedPeers)>,
+    new_set: Option<(u64, TrackedPeers<P>)>,
     first_slot: usize,
     dials: Vec<(u64, Duration)>,
-    inbound: Vec<(Key, Duration)>,
-    asked: Vec<Key>,
-    bad: Key,
+    inbound: Vec<(P::Key, Duration)>,
+    asked: Vec<P::Key>,
+    bad: P::Key,
 }
 
 /// The frames of a connection in a tick: infos and a question, and the position of the set that the
@@ -62,7 +63,7 @@ struct Frames {
     place: usize,
 }
 
-impl Tracker {
+impl<P: Pair> Tracker<P> {
     fn release(&mut self, place: usize) -> Outcome<bool> {
         match self.slots[place].take() {
             Some(held) => {
@@ -74,7 +75,7 @@ impl Tracker {
     }
 
     // Releases the reservations of chosen peers, and returns how many there were.
-    fn release_each(&mut self, is_meant: impl Fn(&Key) -> bool) -> Outcome<usize> {
+    fn release_each(&mut self, is_meant: impl Fn(&P::Key) -> bool) -> Outcome<usize> {
         let mut count = 0;
         for place in 0..CONNECTIONS {
             let held = self.slots[place].as_ref();
@@ -86,7 +87,7 @@ impl Tracker {
     }
 
     // Connects a reservation if there is a free slot and it is allowed, and releases it otherwise.
-    fn keep(&mut self, held: Reservation, may_stay: bool) -> Outcome<()> {
+    fn keep(&mut self, held: Reservation<P>, may_stay: bool) -> Outcome<()> {
         self.done += 1;
         let free = self.slots.iter().position(Option::is_none);
         let directory = self.node.directory_mut();
@@ -100,7 +101,7 @@ impl Tracker {
         Ok(())
     }
 
-    fn track(&mut self, index: u64, peers: &TrackedPeers, now: Moment) -> Outcome<()> {
+    fn track(&mut self, index: u64, peers: &TrackedPeers<P>, now: Moment) -> Outcome<()> {
         let directory = self.node.directory_mut();
         let torn = directory.track(index, peers)?.accepted();
         let torn = torn.ok_or("the index is above")?;
@@ -124,7 +125,7 @@ impl Tracker {
         Ok(())
     }
 
-    fn listen(&mut self, inbound: &[(Key, Duration)], now: Moment) -> Outcome<()> {
+    fn listen(&mut self, inbound: &[(P::Key, Duration)], now: Moment) -> Outcome<()> {
         for (peer, draw) in inbound {
             let directory = self.node.directory_mut();
             if !directory.acceptable(peer, now) {
@@ -137,7 +138,7 @@ impl Tracker {
         Ok(())
     }
 
-    fn call(&mut self, tick: &Tick) -> Outcome<()> {
+    fn call(&mut self, tick: &Tick<P>) -> Outcome<()> {
         if let Some((index, peers)) = &tick.new_set {
             self.track(*index, peers, tick.now)?;
         }
@@ -178,8 +179,8 @@ impl Tracker {
 }
 
 // Chooses what happens in a tick among the peers of the set.
-fn tick_of(tick: usize, here: &[Key], random: &mut Random) -> Tick {
-    let mut some = |count: usize| -> Vec<Key> {
+fn tick_of<P: Pair>(tick: usize, here: &[P::Key], random: &mut Random) -> Tick<P> {
+    let mut some = |count: usize| -> Vec<P::Key> {
         (0..count)
             .map(|_| here[random.below(here.len() as u64) as usize])
             .collect()
@@ -195,7 +196,7 @@ fn tick_of(tick: usize, here: &[Key], random: &mut Random) -> Tick {
         now: Moment::from_secs(1_000_000 + 10 * tick as u64),
         new_set: tick
             .is_multiple_of(TICKS_A_MINUTE)
-            .then(|| (minute as u64, tracked(here))),
+            .then(|| (minute as u64, tracked::<P>(here))),
         first_slot: 8 * tick,
         dials,
         inbound: inbound.into_iter().map(|peer| (peer, chance().1)).collect(),
@@ -206,14 +207,18 @@ fn tick_of(tick: usize, here: &[Key], random: &mut Random) -> Tick {
 
 // The frames of a connection. One in ten of the infos, all of peers in the set, is newer than
 // before.
-fn frames_of(minute: usize, (here, seen): (&[Key], &mut [u64]), random: &mut Random) -> Frames {
+fn frames_of<P: Pair>(
+    minute: usize,
+    (here, seen): (&[P::Key], &mut [u64]),
+    random: &mut Random,
+) -> Frames {
     let count = here.len();
     let infos = (0..INFOS).map(|_| {
         let place = random.below(count as u64) as usize;
         if random.below(10) == 0 {
             seen[place] += 1;
         }
-        info(&here[place], seen[place])
+        info::<P>(&here[place], seen[place])
     });
     let infos = Payload::Peers(infos.collect()).encode();
     let question = BitVec {
@@ -222,18 +227,18 @@ fn frames_of(minute: usize, (here, seen): (&[Key], &mut [u64]), random: &mut Ran
     };
     Frames {
         infos,
-        question: Payload::BitVec(question).encode(),
+        question: Payload::<P>::BitVec(question).encode(),
         place: (random.below(4) as usize).min(minute),
     }
 }
 
 // Runs the hour with so many peers in a set, and returns how much was done.
-fn hour(count: usize, parts: &mut Parts) -> Outcome<usize> {
+fn hour<P: Pair>(count: usize, parts: &mut Parts) -> Outcome<usize> {
     let mut random = Random(count as u64);
-    let all = keys(0, 2 * count);
+    let all = keys::<P>(0, 2 * count);
     let mut seen = vec![1000; 2 * count];
     let mut tracker = Tracker {
-        node: node_of(count.max(INFOS))?,
+        node: node_of::<P>(count.max(INFOS))?,
         slots: (0..CONNECTIONS).map(|_| None).collect(),
         done: 0,
     };
@@ -241,7 +246,7 @@ fn hour(count: usize, parts: &mut Parts) -> Outcome<usize> {
         let minute = tick / TICKS_A_MINUTE;
         let from = minute * (count / 16) % count;
         let here = from..from + count;
-        let now = tick_of(tick, &all[here.clone()], &mut random);
+        let now = tick_of::<P>(tick, &all[here.clone()], &mut random);
         let begin = Instant::now();
         tracker.call(&now)?;
         parts.0[0] += begin.elapsed();
@@ -249,7 +254,11 @@ fn hour(count: usize, parts: &mut Parts) -> Outcome<usize> {
         let mut frames = Vec::new();
         for _ in 0..connected {
             let seen = &mut seen[here.clone()];
-            frames.push(frames_of(minute, (&all[here.clone()], seen), &mut random));
+            frames.push(frames_of::<P>(
+                minute,
+                (&all[here.clone()], seen),
+                &mut random,
+            ));
         }
         for frames in &frames {
             tracker.gossip(frames, now.now, parts)?;
@@ -264,12 +273,12 @@ fn hour(count: usize, parts: &mut Parts) -> Outcome<usize> {
 /// connections end, four peers are dialled of which half fail, eight are inbound, eight are
 /// queried, and one is blocked. Each connection has a frame of infos, a question, and a question to
 /// its peer.
-pub(crate) fn hours(count: usize, samples: usize) -> Outcome<Times> {
+pub(crate) fn hours<P: Pair>(count: usize, samples: usize) -> Outcome<Times> {
     let mut times = Times::default();
     let mut sum = Parts::default();
     for _ in 0..samples {
         let mut parts = Parts::default();
-        let done = hour(count, &mut parts)?;
+        let done = hour::<P>(count, &mut parts)?;
         times.add(parts.0.iter().sum(), done);
         for (sum, part) in sum.0.iter_mut().zip(parts.0) {
             *sum += part;

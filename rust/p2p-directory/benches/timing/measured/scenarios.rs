@@ -5,9 +5,10 @@ use super::made::{
     SETS, config, directory, frame, full, infos, ingress, keys, known, no_bits, node, own_info,
     tracked, verify,
 };
-use super::pair::{Data, Directory, Key, Moment, Payload, Received};
 use crate::Outcome;
 use crate::times::Times;
+use p2p_directory::sized::{Directory, Pair, Payload, Received};
+use p2p_directory::{Data, Moment};
 use std::hint::black_box;
 use std::time::{Duration, Instant};
 
@@ -55,34 +56,37 @@ const NAMES: [&str; 34] = [
 ];
 
 /// The times of a scenario with so many peers. A dot before its name is ignored.
-pub(crate) fn times_of(name: &str, count: usize, samples: usize) -> Outcome<Times> {
+pub(crate) fn times_of<P: Pair>(name: &str, count: usize, samples: usize) -> Outcome<Times> {
     let name = name.strip_prefix('.').unwrap_or(name);
-    let all = keys(0, count);
+    let all = keys::<P>(0, count);
     match name {
-        "init" => inits(&all, samples),
-        "track" => tracks(count, samples),
-        "listen" | "dial" | "connect" | "connect_dialer" => cycles(&all, samples, name),
-        "update_1" => updates(&all, samples, 1),
-        "update_100" => updates(&all, samples, 100),
-        "update_1000" => updates(&all, samples, 1000),
+        "init" => inits::<P>(&all, samples),
+        "track" => tracks::<P>(count, samples),
+        "listen" | "dial" | "connect" | "connect_dialer" => cycles::<P>(&all, samples, name),
+        "update_1" => updates::<P>(&all, samples, 1),
+        "update_100" => updates::<P>(&all, samples, 100),
+        "update_1000" => updates::<P>(&all, samples, 1000),
         "block" | "next_unblock" | "blocked_peers" | "unblock_expired" | "unblock_idle" => {
-            blocks(&all, samples, name)
+            blocks::<P>(&all, samples, name)
         }
-        "forget_cooled" => forgets(&all, samples),
-        "receive" => receives(&all, samples),
-        "data" | "copy" => messages(count, samples, name),
-        "day" => hours(count, samples),
+        "forget_cooled" => forgets::<P>(&all, samples),
+        "receive" => receives::<P>(&all, samples),
+        "data" | "copy" => messages::<P>(count, samples, name),
+        "day" => hours::<P>(count, samples),
         "keys" => Ok(once(all.len())),
-        "fill" => Ok(once(full(&all)?.tracked())),
-        "fill_known" => Ok(once(known(&all)?.tracked())),
-        _ => questions(&all, samples, name),
+        "fill" => Ok(once(full::<P>(&all)?.tracked())),
+        "fill_known" => Ok(once(known::<P>(&all)?.tracked())),
+        _ => questions::<P>(&all, samples, name),
     }
 }
 
 /// Makes the calls of each scenario with few peers, and prints what was done.
-pub(crate) fn measure_few() -> Outcome<()> {
+pub(crate) fn measure_few<P: Pair>() -> Outcome<()> {
     for name in NAMES {
-        println!("{name}, 10 peers: {} done", times_of(name, 10, 2)?.done);
+        println!(
+            "{name}, 10 peers: {} done",
+            times_of::<P>(name, 10, 2)?.done
+        );
     }
     Ok(())
 }
@@ -96,28 +100,28 @@ fn once(done: usize) -> Times {
 }
 
 // New directories with these peers as bootstrappers.
-fn inits(all: &[Key], samples: usize) -> Outcome<Times> {
+fn inits<P: Pair>(all: &[P::Key], samples: usize) -> Outcome<Times> {
     let mut times = Times::default();
     for _ in 0..samples {
-        let bootstrappers: Vec<_> = all.iter().map(|key| (*key, ingress(key))).collect();
+        let bootstrappers: Vec<_> = all.iter().map(|key| (*key, ingress::<P>(key))).collect();
         let config = config(1);
-        let own = own_info();
+        let own = own_info::<P>();
         let start = Instant::now();
-        let directory = Directory::init(&bootstrappers, &own, config)?;
+        let directory = Directory::<P>::init(&bootstrappers, &own, config)?;
         times.add(start.elapsed(), directory.tracked());
     }
     Ok(times)
 }
 
 // Sets a quarter of which is new.
-fn tracks(count: usize, samples: usize) -> Outcome<Times> {
-    let all = keys(0, count * 64);
+fn tracks<P: Pair>(count: usize, samples: usize) -> Outcome<Times> {
+    let all = keys::<P>(0, count * 64);
     let span = (all.len() - count).max(1);
-    let mut directory = directory(SETS)?;
+    let mut directory = directory::<P>(SETS)?;
     let mut times = Times::default();
     for index in 0..samples {
         let from = (index * count / 4) % span;
-        let peers = tracked(&all[from..from + count]);
+        let peers = tracked::<P>(&all[from..from + count]);
         let start = Instant::now();
         let torn = directory.track(index as u64, &peers)?;
         times.add(start.elapsed(), torn.accepted().is_some().into());
@@ -127,7 +131,12 @@ fn tracks(count: usize, samples: usize) -> Outcome<Times> {
 
 // Reserves the peer and releases it, with the rest of the scenario in between. Returns whether it
 // was granted.
-fn cycle(directory: &mut Directory, key: &Key, now: Moment, name: &str) -> Outcome<bool> {
+fn cycle<P: Pair>(
+    directory: &mut Directory<P>,
+    key: &P::Key,
+    now: Moment,
+    name: &str,
+) -> Outcome<bool> {
     let granted = match name {
         "dial" => directory.dial(key, now, Duration::ZERO)?,
         _ => directory.listen(key, now, Duration::ZERO)?,
@@ -145,8 +154,8 @@ fn cycle(directory: &mut Directory, key: &Key, now: Moment, name: &str) -> Outco
 }
 
 // Reserves all peers, connects them if asked to, and releases them.
-fn cycles(all: &[Key], samples: usize, name: &str) -> Outcome<Times> {
-    let mut directory = known(all)?;
+fn cycles<P: Pair>(all: &[P::Key], samples: usize, name: &str) -> Outcome<Times> {
+    let mut directory = known::<P>(all)?;
     let mut times = Times::default();
     for sample in 1..=samples as u64 {
         let now = Moment::from_secs(100 + 11 * sample);
@@ -161,11 +170,14 @@ fn cycles(all: &[Key], samples: usize, name: &str) -> Outcome<Times> {
 }
 
 // Updates the infos of all peers, in lists of at most so many.
-fn updates(all: &[Key], samples: usize, size: usize) -> Outcome<Times> {
-    let mut directory = full(all)?;
+fn updates<P: Pair>(all: &[P::Key], samples: usize, size: usize) -> Outcome<Times> {
+    let mut directory = full::<P>(all)?;
     let mut times = Times::default();
     for sample in 0..samples as u64 {
-        let lists: Vec<_> = all.chunks(size).map(|keys| infos(keys, sample)).collect();
+        let lists: Vec<_> = all
+            .chunks(size)
+            .map(|keys| infos::<P>(keys, sample))
+            .collect();
         let start = Instant::now();
         for list in &lists {
             directory.update_peers(list)?;
@@ -177,8 +189,8 @@ fn updates(all: &[Key], samples: usize, size: usize) -> Outcome<Times> {
 
 // Blocks all peers, each a nanosecond later than the one before, and ends the blocks. One of both
 // parts is measured.
-fn blocks(all: &[Key], samples: usize, timed: &str) -> Outcome<Times> {
-    let mut directory = known(all)?;
+fn blocks<P: Pair>(all: &[P::Key], samples: usize, timed: &str) -> Outcome<Times> {
+    let mut directory = known::<P>(all)?;
     let mut times = Times::default();
     for sample in 1..=samples as u64 {
         let now = NOW.saturating_add(Duration::from_secs(1000 * sample));
@@ -200,7 +212,12 @@ fn blocks(all: &[Key], samples: usize, timed: &str) -> Outcome<Times> {
     Ok(times)
 }
 
-fn block_phase(directory: &mut Directory, all: &[Key], now: Moment, phase: &str) -> Outcome<usize> {
+fn block_phase<P: Pair>(
+    directory: &mut Directory<P>,
+    all: &[P::Key],
+    now: Moment,
+    phase: &str,
+) -> Outcome<usize> {
     match phase {
         "block" => {
             let mut done = 0;
@@ -225,8 +242,8 @@ fn repeated(ask: impl Fn() -> bool) -> usize {
 }
 
 // Forgets the cooldowns of all peers, each of which was released before.
-fn forgets(all: &[Key], samples: usize) -> Outcome<Times> {
-    let mut directory = known(all)?;
+fn forgets<P: Pair>(all: &[P::Key], samples: usize) -> Outcome<Times> {
+    let mut directory = known::<P>(all)?;
     let mut times = Times::default();
     for sample in 0..samples as u64 {
         let now = Moment::from_secs(sample * 100);
@@ -241,11 +258,11 @@ fn forgets(all: &[Key], samples: usize) -> Outcome<Times> {
 }
 
 // A node receives frames with the infos of all peers, each time newer ones.
-fn receives(all: &[Key], samples: usize) -> Outcome<Times> {
-    let mut node = node(all)?;
+fn receives<P: Pair>(all: &[P::Key], samples: usize) -> Outcome<Times> {
+    let mut node = node::<P>(all)?;
     let mut times = Times::default();
     for sample in 0..samples as u64 {
-        let frame = frame(all, sample);
+        let frame = frame::<P>(all, sample);
         let start = Instant::now();
         let answer = node.receive(&frame, Moment::from_secs(100), verify);
         let time = start.elapsed();
@@ -255,10 +272,10 @@ fn receives(all: &[Key], samples: usize) -> Outcome<Times> {
 }
 
 // A node receives a message of so many bytes, or its frame is copied.
-fn messages(count: usize, samples: usize, name: &str) -> Outcome<Times> {
-    let mut node = node(&[])?;
+fn messages<P: Pair>(count: usize, samples: usize, name: &str) -> Outcome<Times> {
+    let mut node = node::<P>(&[])?;
     let message = vec![7; count];
-    let frame = Payload::Data(Data {
+    let frame = Payload::<P>::Data(Data {
         channel: 1,
         message,
     })
@@ -280,8 +297,8 @@ fn messages(count: usize, samples: usize, name: &str) -> Outcome<Times> {
 }
 
 // A query of a directory that knows all peers. If infos are shared, all are connected.
-fn questions(all: &[Key], samples: usize, name: &str) -> Outcome<Times> {
-    let mut directory = known(all)?;
+fn questions<P: Pair>(all: &[P::Key], samples: usize, name: &str) -> Outcome<Times> {
+    let mut directory = known::<P>(all)?;
     let mut held = Vec::new();
     if let "info" | "infos" = name {
         for key in all {
@@ -302,8 +319,8 @@ fn questions(all: &[Key], samples: usize, name: &str) -> Outcome<Times> {
 }
 
 // Makes the query, and returns the length of its result.
-fn ask(directory: &Directory, all: &[Key], name: &str) -> Outcome<usize> {
-    let of_each = |ask: &dyn Fn(&Key) -> bool| all.iter().filter(|key| ask(key)).count();
+fn ask<P: Pair>(directory: &Directory<P>, all: &[P::Key], name: &str) -> Outcome<usize> {
+    let of_each = |ask: &dyn Fn(&P::Key) -> bool| all.iter().filter(|key| ask(key)).count();
     Ok(match name {
         "status" => of_each(&|key| directory.status(key).is_some()),
         "eligible" => of_each(&|key| directory.eligible(key, NOW)),
