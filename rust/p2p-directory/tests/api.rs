@@ -80,10 +80,10 @@ fn dial_moment<P: Pair>(draw: Duration) -> Option<Moment> {
         peer_connection_cooldown: 5 * NANO,
         ..config()
     };
-    let mut directory = Directory::<P>::init(&[], &info::<P>(9, 0), cfg).unwrap();
-    let peers = OrderedSet::<P>::from_iter_dedup([key::<P>(1)]);
+    let mut directory = Directory::<P>::init(&[], &info(9, 0), cfg).unwrap();
+    let peers = OrderedSet::from_iter_dedup([key::<P>(1)]);
     let _ = directory.track(0, &peers.into()).unwrap();
-    directory.update_peers(&[info::<P>(1, 1000)]).unwrap();
+    directory.update_peers(&[info(1, 1000)]).unwrap();
     let granted = directory.listen(&key::<P>(1), Moment::from_secs(100), draw);
     directory.release(granted.unwrap().unwrap()).unwrap();
     let told = directory.dialable(Moment::from_secs(100)).unwrap();
@@ -133,7 +133,7 @@ fn a_draw_has_each_jitter_up_to_twice_the_half_of_the_cooldown() {
 
 fn a_directory_is_formatted_without_a_call<P: Pair>() {
     let mut directory = directory::<P>();
-    let peers = OrderedSet::<P>::from_iter_dedup([key::<P>(1), key::<P>(2)]).into();
+    let peers = OrderedSet::from_iter_dedup([key::<P>(1), key::<P>(2)]).into();
     let _ = directory.track(0, &peers).unwrap();
     let granted = directory.listen(&key::<P>(1), Moment::from_secs(1), Duration::ZERO);
     drop(granted.unwrap().unwrap());
@@ -333,7 +333,7 @@ fn errors_name_their_causes() {
 }
 
 fn refusals_name_their_causes<P: Pair>() {
-    let mut node = Node::<P>::new(&testing::setup::<P>(9)).unwrap();
+    let mut node = Node::<P>::new(&testing::setup(9)).unwrap();
     let mut refused = |frame: &[u8]| {
         let received = node.receive(frame, Moment::EPOCH, testing::verify);
         texts(&received.accepted().unwrap_err())
@@ -374,10 +374,10 @@ fn what_is_accepted_is_handed_on<P: Pair>() {
 
 fn an_error_of_a_reservation_names_its_peer<P: Pair>() {
     let mut directory = directory::<P>();
-    let peers = OrderedSet::<P>::from_iter_dedup([key::<P>(1)]);
+    let peers = OrderedSet::from_iter_dedup([key::<P>(1)]);
     let _ = directory.track(0, &peers.into()).unwrap();
     let granted = directory.listen(&key::<P>(1), Moment::from_secs(1), Duration::ZERO);
-    let refused = testing::directory::<P>()
+    let refused = testing::directory()
         .release(granted.unwrap().unwrap())
         .unwrap_err();
     assert_eq!(
@@ -433,7 +433,7 @@ fn long_info<P: Pair>(host: usize, groups: u32) -> Info<P> {
         Err(_) => SocketAddr::from(([1, 2, 3, 4], 8000)).into(),
     };
     let timestamp = 1 << (7 * (groups - 1));
-    Info::<P>::sign(key::<P>(1), b"", ingress, timestamp, |_, _| {
+    Info::sign(key::<P>(1), b"", ingress, timestamp, |_, _| {
         P::Signature::of_bytes(&vec![0; P::SIGNATURE_SIZE]).unwrap()
     })
 }
@@ -509,13 +509,13 @@ fn what_a_transport_carries_is_told<P: Pair>() {
 
 fn a_node_tells_its_key_and_greets<P: Pair>() {
     let setup = testing::setup::<P>(9);
-    let node = Node::<P>::new(&setup).unwrap();
+    let node = Node::new(&setup).unwrap();
     assert_eq!(node.public_key(), &key::<P>(9));
     let limits = PayloadConfig {
         max_bit_vec: 0,
         max_peers: 0,
         max_data_length: 0,
     };
-    let greeting = Payload::<P>::decode(node.greeting(), &limits);
+    let greeting = Payload::decode(node.greeting(), &limits);
     assert_eq!(greeting, Ok(Payload::Greeting(setup.myself)));
 }

@@ -31,10 +31,10 @@ fn tracked<P: Pair>(sets: &[&[u16]]) -> Directory<P> {
         peer_connection_cooldown: Duration::ZERO,
         ..config()
     };
-    let mut directory = Directory::<P>::init(&[], &info::<P>(99, 0), cfg).unwrap();
+    let mut directory = Directory::init(&[], &info(99, 0), cfg).unwrap();
     for (index, numbers) in (0..).zip(sets) {
         let keys = numbers.iter().map(|number| key::<P>(*number));
-        let peers = OrderedSet::<P>::from_iter_dedup(keys).into();
+        let peers = OrderedSet::from_iter_dedup(keys).into();
         directory.track(index, &peers).unwrap().accepted().unwrap();
     }
     directory
@@ -46,9 +46,7 @@ fn bits<P: Pair>(directory: &Directory<P>, place: usize) -> Vec<bool> {
 
 // Sets the bit of a peer, by a newer info of it.
 fn know<P: Pair>(directory: &mut Directory<P>, number: u16, timestamp: u64) {
-    directory
-        .update_peers(&[info::<P>(number, timestamp)])
-        .unwrap();
+    directory.update_peers(&[info(number, timestamp)]).unwrap();
 }
 
 // Clears the bit of a peer, by a dial that fails: one is enough.
@@ -90,7 +88,7 @@ fn test_set_initialization_and_sorting<P: Pair>() {
     }
     assert_eq!(bits(&directory, 0), [false; 3]);
     // Bits are in the order of keys.
-    directory.update_peers(&[info::<P>(3, 1)]).unwrap();
+    directory.update_peers(&[info(3, 1)]).unwrap();
     assert_eq!(bits(&directory, 0), [false, false, true]);
 }
 
@@ -112,7 +110,7 @@ fn test_update_knowledge_single_peer<P: Pair>() {
 
 fn test_update_multiple_peers<P: Pair>() {
     let mut directory = tracked::<P>(&[&[1, 2, 3], &[2, 3, 4]]);
-    let infos: Vec<_> = [4, 2].map(|number| info::<P>(number, 1)).into();
+    let infos: Vec<_> = [4, 2].map(|number| info(number, 1)).into();
     directory.update_peers(&infos).unwrap();
     assert_eq!(bits(&directory, 0), [false, true, false]);
     assert_eq!(bits(&directory, 1), [true, false, true]);

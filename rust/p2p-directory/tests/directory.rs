@@ -37,11 +37,11 @@ tests_of_each_pair! {
 }
 
 fn set<P: Pair>(numbers: &[u16]) -> OrderedSet<P> {
-    OrderedSet::<P>::from_iter_dedup(numbers.iter().map(|number| key::<P>(*number)))
+    OrderedSet::from_iter_dedup(numbers.iter().map(|number| key::<P>(*number)))
 }
 
 fn peers<P: Pair>(primary: &[u16], secondary: &[u16]) -> TrackedPeers<P> {
-    TrackedPeers::<P>::new(set::<P>(primary), set::<P>(secondary))
+    TrackedPeers::new(set(primary), set(secondary))
 }
 
 fn seconds(seconds: u64) -> Moment {
@@ -58,7 +58,7 @@ fn with_sets<P: Pair>(max_sets: usize) -> Directory<P> {
         max_sets,
         ..config()
     };
-    Directory::<P>::init(&[], &info::<P>(9, 0), cfg).unwrap()
+    Directory::init(&[], &info(9, 0), cfg).unwrap()
 }
 
 // Registers the set, and returns the peers that must be disconnected.
@@ -67,7 +67,7 @@ fn track<P: Pair>(
     index: u64,
     primary: &[u16],
 ) -> Option<OrderedSet<P>> {
-    let tracked = directory.track(index, &set::<P>(primary).into()).unwrap();
+    let tracked = directory.track(index, &set(primary).into()).unwrap();
     tracked.accepted()
 }
 
@@ -92,7 +92,7 @@ fn test_track_kills_connected_peer_removed_from_sets<P: Pair>() {
     track(&mut directory, 0, &[1]);
     let reservation = listen(&mut directory, 1, seconds(100)).unwrap();
     directory.connect(&key::<P>(1), false).unwrap();
-    assert_eq!(track(&mut directory, 1, &[2]), Some(set::<P>(&[1])));
+    assert_eq!(track(&mut directory, 1, &[2]), Some(set(&[1])));
     assert_eq!(directory.status(&key::<P>(1)), Some(Status::Active));
     assert_eq!(reservation.public_key(), &key::<P>(1));
     directory.release(reservation).unwrap();
@@ -111,19 +111,19 @@ fn test_secondary_sets_remain_until_eviction<P: Pair>() {
     let mut directory = with_sets::<P>(2);
     let now = seconds(100);
     directory
-        .track(0, &peers::<P>(&[1], &[4]))
+        .track(0, &peers(&[1], &[4]))
         .unwrap()
         .accepted()
         .unwrap();
     assert!(directory.eligible(&key::<P>(4), now));
     directory
-        .track(1, &peers::<P>(&[2], &[5]))
+        .track(1, &peers(&[2], &[5]))
         .unwrap()
         .accepted()
         .unwrap();
     assert!(directory.eligible(&key::<P>(4), now) && directory.eligible(&key::<P>(5), now));
     directory
-        .track(2, &peers::<P>(&[3], &[]))
+        .track(2, &peers(&[3], &[]))
         .unwrap()
         .accepted()
         .unwrap();
@@ -134,17 +134,17 @@ fn test_secondary_sets_remain_until_eviction<P: Pair>() {
 fn test_track_primary_secondary_overlap_deduplicates<P: Pair>() {
     let mut directory = with_sets::<P>(3);
     directory
-        .track(0, &peers::<P>(&[1, 2], &[2, 3]))
+        .track(0, &peers(&[1, 2], &[2, 3]))
         .unwrap()
         .accepted()
         .unwrap();
     assert_eq!(
         directory.get_peer_set(0).unwrap(),
-        Some(peers::<P>(&[1, 2], &[3]))
+        Some(peers(&[1, 2], &[3]))
     );
     let update = directory.latest_update().unwrap().unwrap();
-    assert_eq!(update.latest, peers::<P>(&[1, 2], &[3]));
-    assert_eq!(directory.all().unwrap(), peers::<P>(&[1, 2], &[3]));
+    assert_eq!(update.latest, peers(&[1, 2], &[3]));
+    assert_eq!(directory.all().unwrap(), peers(&[1, 2], &[3]));
     assert_eq!(counts(&directory, 1, 2), (1, 0));
     assert_eq!(counts(&directory, 1, 3), (0, 1));
 }
@@ -167,7 +167,7 @@ fn counts<P: Pair>(directory: &Directory<P>, end: u64, number: u16) -> (usize, u
 fn test_demotion_from_primary_to_secondary<P: Pair>() {
     let mut directory = with_sets::<P>(2);
     directory
-        .track(0, &peers::<P>(&[1], &[2]))
+        .track(0, &peers(&[1], &[2]))
         .unwrap()
         .accepted()
         .unwrap();
@@ -176,7 +176,7 @@ fn test_demotion_from_primary_to_secondary<P: Pair>() {
         [(1, 0), (0, 1)]
     );
     directory
-        .track(1, &peers::<P>(&[2], &[1]))
+        .track(1, &peers(&[2], &[1]))
         .unwrap()
         .accepted()
         .unwrap();
@@ -185,9 +185,9 @@ fn test_demotion_from_primary_to_secondary<P: Pair>() {
         [(1, 1), (1, 1)]
     );
     // A peer that is primary in some set is primary.
-    assert_eq!(directory.all().unwrap(), peers::<P>(&[1, 2], &[]));
+    assert_eq!(directory.all().unwrap(), peers(&[1, 2], &[]));
     directory
-        .track(2, &peers::<P>(&[2], &[1]))
+        .track(2, &peers(&[2], &[1]))
         .unwrap()
         .accepted()
         .unwrap();
@@ -196,11 +196,11 @@ fn test_demotion_from_primary_to_secondary<P: Pair>() {
         [1, 2].map(|number| counts(&directory, 3, number)),
         [(0, 2), (2, 0)]
     );
-    assert_eq!(directory.all().unwrap(), peers::<P>(&[2], &[1]));
+    assert_eq!(directory.all().unwrap(), peers(&[2], &[1]));
     // Its record counts both: it stays until the second of these sets is dropped, too.
     for (index, status) in [(3, Some(Status::Inert)), (4, None)] {
         directory
-            .track(index, &peers::<P>(&[3], &[]))
+            .track(index, &peers(&[3], &[]))
             .unwrap()
             .accepted()
             .unwrap();
@@ -212,16 +212,16 @@ fn test_demotion_from_primary_to_secondary<P: Pair>() {
 fn test_all_cross_index_primary_wins_for_overlap_peer<P: Pair>() {
     let mut directory = with_sets::<P>(3);
     directory
-        .track(0, &peers::<P>(&[31, 33], &[]))
+        .track(0, &peers(&[31, 33], &[]))
         .unwrap()
         .accepted()
         .unwrap();
     directory
-        .track(1, &peers::<P>(&[32], &[33, 34]))
+        .track(1, &peers(&[32], &[33, 34]))
         .unwrap()
         .accepted()
         .unwrap();
-    assert_eq!(directory.all().unwrap(), peers::<P>(&[31, 32, 33], &[34]));
+    assert_eq!(directory.all().unwrap(), peers(&[31, 32, 33], &[34]));
 }
 
 fn test_block_nonexistent_peer_then_add_to_set<P: Pair>() {
@@ -237,10 +237,10 @@ fn test_block_nonexistent_peer_then_add_to_set<P: Pair>() {
 
 fn a_record_lives_as_long_as_something_keeps_it<P: Pair>() {
     let mut directory = directory::<P>();
-    assert_eq!(track(&mut directory, 0, &[1]), Some(set::<P>(&[])));
+    assert_eq!(track(&mut directory, 0, &[1]), Some(set(&[])));
     let reservation = listen(&mut directory, 1, seconds(100)).unwrap();
     assert_eq!(track(&mut directory, 0, &[2]), None);
-    assert_eq!(track(&mut directory, 1, &[2]), Some(set::<P>(&[1])));
+    assert_eq!(track(&mut directory, 1, &[2]), Some(set(&[1])));
     assert_eq!(directory.status(&key::<P>(1)), Some(Status::Reserved));
     directory.release(reservation).unwrap();
     assert_eq!(directory.status(&key::<P>(1)), None);
@@ -256,7 +256,7 @@ fn a_record_lives_as_long_as_something_keeps_it<P: Pair>() {
 fn an_info_is_kept_while_a_new_set_names_its_peer<P: Pair>() {
     let mut directory = directory::<P>();
     track(&mut directory, 0, &[1]);
-    directory.update_peers(&[info::<P>(1, 1000)]).unwrap();
+    directory.update_peers(&[info(1, 1000)]).unwrap();
     track(&mut directory, 1, &[1, 2]);
     let bits = BitVec {
         index: 1,
@@ -270,7 +270,7 @@ fn an_info_is_kept_while_a_new_set_names_its_peer<P: Pair>() {
 fn a_peer_is_dialable_later_than_reservable<P: Pair>() {
     let mut directory = directory::<P>();
     track(&mut directory, 0, &[1]);
-    directory.update_peers(&[info::<P>(1, 1000)]).unwrap();
+    directory.update_peers(&[info(1, 1000)]).unwrap();
     let draw = Duration::from_secs(10);
     let granted = directory.dial(&key::<P>(1), seconds(100), draw).unwrap();
     directory.release(granted.unwrap()).unwrap();
@@ -294,12 +294,9 @@ fn a_block_outlives_the_record<P: Pair>() {
     let reservation = listen(&mut directory, 1, seconds(160)).unwrap();
     directory.connect(&key::<P>(1), false).unwrap();
     assert!(directory.block(&key::<P>(1), seconds(161)).unwrap());
-    assert_eq!(track(&mut directory, 3, &[2]), Some(set::<P>(&[1])));
+    assert_eq!(track(&mut directory, 3, &[2]), Some(set(&[1])));
     directory.release(reservation).unwrap();
-    assert_eq!(
-        directory.blocked_peers(seconds(170)).unwrap(),
-        set::<P>(&[1])
-    );
+    assert_eq!(directory.blocked_peers(seconds(170)).unwrap(), set(&[1]));
 }
 
 fn a_block_of_no_duration_is_taken_and_blocks_nobody<P: Pair>() {
@@ -307,7 +304,7 @@ fn a_block_of_no_duration_is_taken_and_blocks_nobody<P: Pair>() {
         block_duration: Duration::ZERO,
         ..config()
     };
-    let mut directory = Directory::<P>::init(&[], &info::<P>(9, 0), cfg).unwrap();
+    let mut directory = Directory::<P>::init(&[], &info(9, 0), cfg).unwrap();
     track(&mut directory, 0, &[1]);
     assert!(directory.block(&key::<P>(1), seconds(100)).unwrap());
     assert!(directory.eligible(&key::<P>(1), seconds(100)));
@@ -323,12 +320,9 @@ fn the_first_of_the_greatest_timestamp_is_kept<P: Pair>() {
     let reservation = listen(&mut directory, 1, seconds(100)).unwrap();
     directory.connect(&key::<P>(1), false).unwrap();
     let offers = [
-        (
-            vec![info_at::<P>(1, 1000, 8001), info_at::<P>(1, 1000, 8002)],
-            8001,
-        ),
-        (vec![info_at::<P>(1, 999, 8003)], 8001),
-        (vec![info_at::<P>(1, 1001, 8004)], 8004),
+        (vec![info_at(1, 1000, 8001), info_at(1, 1000, 8002)], 8001),
+        (vec![info_at(1, 999, 8003)], 8001),
+        (vec![info_at(1, 1001, 8004)], 8004),
     ];
     for (infos, port) in offers {
         directory.update_peers(&infos).unwrap();
@@ -339,18 +333,14 @@ fn the_first_of_the_greatest_timestamp_is_kept<P: Pair>() {
 }
 
 fn infos_are_those_that_may_be_shared<P: Pair>() {
-    let mut directory = directory::<P>();
+    let mut directory = directory();
     track(&mut directory, 5, &[1, 2, 3, 9]);
     let held: Vec<Reservation<P>> = (1..=3)
         .map(|number| listen(&mut directory, number, seconds(50)).unwrap())
         .collect();
     directory.connect(&key::<P>(1), false).unwrap();
     directory.connect(&key::<P>(2), false).unwrap();
-    let infos = [
-        info::<P>(1, 100_000),
-        info::<P>(2, 100_001),
-        info::<P>(3, 50_000),
-    ];
+    let infos = [info(1, 100_000), info(2, 100_001), info(3, 50_000)];
     directory.update_peers(&infos).unwrap();
     let asked = |index, bits: &[bool], now| {
         let bits = bits.to_vec();
@@ -360,13 +350,13 @@ fn infos_are_those_that_may_be_shared<P: Pair>() {
     assert_eq!(asked(5, &[false; 3], seconds(100)), None);
     assert_eq!(
         asked(5, &[false; 4], seconds(100)),
-        Some(vec![info::<P>(1, 100_000), info::<P>(9, 0)])
+        Some(vec![info(1, 100_000), info(9, 0)])
     );
     let others = [true, false, false, true];
     assert_eq!(asked(5, &others, nanos(100, 999_999)), Some(Vec::new()));
     assert_eq!(
         asked(5, &others, nanos(100, 1_000_000)),
-        Some(vec![info::<P>(2, 100_001)])
+        Some(vec![info(2, 100_001)])
     );
     for reservation in held {
         directory.release(reservation).unwrap();
@@ -375,7 +365,7 @@ fn infos_are_those_that_may_be_shared<P: Pair>() {
 
 fn edges_of_indices_and_of_what_is_refused<P: Pair>() {
     let mut directory = directory::<P>();
-    assert_eq!(track(&mut directory, u64::MAX, &[1]), Some(set::<P>(&[])));
+    assert_eq!(track(&mut directory, u64::MAX, &[1]), Some(set(&[])));
     assert_eq!(track(&mut directory, 0, &[2]), None);
     assert_eq!(track(&mut directory, u64::MAX, &[2]), None);
     assert_eq!(directory.connect(&key::<P>(1), true), Err(NotReservedError));
@@ -389,32 +379,32 @@ fn edges_of_indices_and_of_what_is_refused<P: Pair>() {
 fn secondary_peers_come_but_are_not_dialled<P: Pair>() {
     let mut directory = with_sets::<P>(2);
     directory
-        .track(0, &peers::<P>(&[1], &[1, 2]))
+        .track(0, &peers(&[1], &[1, 2]))
         .unwrap()
         .accepted()
         .unwrap();
-    directory.update_peers(&[info::<P>(2, 1000)]).unwrap();
+    directory.update_peers(&[info(2, 1000)]).unwrap();
     assert!(dial(&mut directory, 2, seconds(100)).is_none());
     let reservation = listen(&mut directory, 2, seconds(100)).unwrap();
-    assert_eq!(track(&mut directory, 1, &[2]), Some(set::<P>(&[])));
-    assert_eq!(directory.all().unwrap(), peers::<P>(&[1, 2], &[]));
+    assert_eq!(track(&mut directory, 1, &[2]), Some(set(&[])));
+    assert_eq!(directory.all().unwrap(), peers(&[1, 2], &[]));
     let update = directory.latest_update().unwrap().unwrap();
     assert_eq!(update.index, 1);
-    assert_eq!(update.latest, peers::<P>(&[2], &[]));
-    assert_eq!(update.all, peers::<P>(&[1, 2], &[]));
-    assert_eq!(track(&mut directory, 2, &[]), Some(set::<P>(&[])));
-    assert_eq!(track(&mut directory, 3, &[]), Some(set::<P>(&[2])));
+    assert_eq!(update.latest, peers(&[2], &[]));
+    assert_eq!(update.all, peers(&[1, 2], &[]));
+    assert_eq!(track(&mut directory, 2, &[]), Some(set(&[])));
+    assert_eq!(track(&mut directory, 3, &[]), Some(set(&[2])));
     directory.release(reservation).unwrap();
 }
 
 fn a_blocked_peer_is_asked_for_again_at_its_end<P: Pair>() {
     let mut directory = directory::<P>();
     directory
-        .track(0, &peers::<P>(&[1], &[2]))
+        .track(0, &peers(&[1], &[2]))
         .unwrap()
         .accepted()
         .unwrap();
-    directory.update_peers(&[info::<P>(1, 1000)]).unwrap();
+    directory.update_peers(&[info(1, 1000)]).unwrap();
     assert!(directory.block(&key::<P>(2), seconds(100)).unwrap());
     let dialable = |now| directory.dialable(now).unwrap();
     let one = vec![key::<P>(1)];
@@ -431,7 +421,7 @@ fn a_later_bootstrapper_replaces_an_earlier_one<P: Pair>() {
         (key::<P>(1), at(81)),
         (key::<P>(9), at(82)),
     ];
-    let mut directory = Directory::<P>::init(&bootstrappers, &info::<P>(9, 0), config()).unwrap();
+    let mut directory = Directory::<P>::init(&bootstrappers, &info(9, 0), config()).unwrap();
     assert_eq!(directory.tracked(), 1);
     let granted = dial(&mut directory, 1, seconds(1)).unwrap();
     assert_eq!(granted.metadata(), &Metadata::Dialer(key::<P>(1), at(81)));
@@ -441,7 +431,7 @@ fn a_later_bootstrapper_replaces_an_earlier_one<P: Pair>() {
 fn answers_longer_than_their_room_come_whole<P: Pair>() {
     let mut directory = with_sets::<P>(4);
     let many: Vec<P::Key> = (1..=5000).map(key::<P>).collect();
-    let many = OrderedSet::<P>::try_from(many).unwrap();
+    let many = OrderedSet::try_from(many).unwrap();
     directory
         .track(0, &many.clone().into())
         .unwrap()
@@ -452,20 +442,20 @@ fn answers_longer_than_their_room_come_whole<P: Pair>() {
     let bits = directory.get_random_bit_vec(0).unwrap().unwrap();
     assert_eq!(bits.bits.iter().filter(|bit| **bit).count(), 1);
     assert!(directory.dialable(seconds(1)).unwrap().peers.is_empty());
-    let infos: Vec<_> = (1..=5000).map(|number| info::<P>(number, 1)).collect();
+    let infos: Vec<_> = (1..=5000).map(|number| info(number, 1)).collect();
     directory.update_peers(&infos).unwrap();
     assert_eq!(directory.dialable(seconds(1)).unwrap().peers.len(), 4999);
 }
 
 fn many_are_torn_down_at_once<P: Pair>() {
-    let mut directory = directory::<P>();
+    let mut directory = directory();
     let many: Vec<u16> = (1..=1000).filter(|number| *number != 9).collect();
     track(&mut directory, 0, &many);
     let held: Vec<Reservation<P>> = many
         .iter()
         .map(|number| listen(&mut directory, *number, seconds(1)).unwrap())
         .collect();
-    assert_eq!(track(&mut directory, 1, &[]), Some(set::<P>(&many)));
+    assert_eq!(track(&mut directory, 1, &[]), Some(set(&many)));
     for reservation in held {
         directory.release(reservation).unwrap();
     }
@@ -491,7 +481,7 @@ fn settings_below_a_second_count<P: Pair>() {
         block_duration: Duration::new(60, 700_000_000),
         ..config()
     };
-    let mut directory = Directory::<P>::init(&[], &info::<P>(9, 0), cfg).unwrap();
+    let mut directory = Directory::<P>::init(&[], &info(9, 0), cfg).unwrap();
     track(&mut directory, 0, &[1]);
     let held = listen(&mut directory, 1, seconds(100)).unwrap();
     directory.release(held).unwrap();

@@ -38,9 +38,9 @@ tests_of_each_pair! {
 }
 
 fn node<P: Pair>(number: u16, numbers: &[u16]) -> Node<P> {
-    let mut node = Node::<P>::new(&setup::<P>(number)).unwrap();
+    let mut node = Node::new(&setup(number)).unwrap();
     let keys = numbers.iter().map(|number| key::<P>(*number));
-    let peers = OrderedSet::<P>::from_iter_dedup(keys).into();
+    let peers = OrderedSet::from_iter_dedup(keys).into();
     node.directory_mut()
         .track(0, &peers)
         .unwrap()
@@ -82,10 +82,10 @@ fn exchange<P: Pair>(
 }
 
 fn an_exchange_brings_what_is_wanted_and_may_be_shared<P: Pair>() {
-    let (mut asker, mut replier) = (node::<P>(9, &[1, 2]), node::<P>(8, &[1, 2]));
+    let (mut asker, mut replier) = (node::<P>(9, &[1, 2]), node(8, &[1, 2]));
     replier
         .directory_mut()
-        .update_peers(&[info::<P>(1, 100_000)])
+        .update_peers(&[info(1, 100_000)])
         .unwrap();
     let held = connected(&mut replier, 1);
     assert_eq!(asker.ask(0).unwrap().unwrap(), [2, 0, 2, 0]);
@@ -108,16 +108,13 @@ fn an_exchange_brings_what_is_wanted_and_may_be_shared<P: Pair>() {
 }
 
 fn bits_of_another_number_are_malformed<P: Pair>() {
-    let (mut asker, mut replier) = (node::<P>(9, &[1, 2]), node::<P>(8, &[1]));
+    let (mut asker, mut replier) = (node::<P>(9, &[1, 2]), node(8, &[1]));
     let answer = exchange(&mut asker, &mut replier, seconds(100), seconds(100));
     assert_eq!(answer, Received::Malformed);
 }
 
 fn an_unknown_index_has_no_infos<P: Pair>() {
-    let (mut asker, mut replier) = (
-        node::<P>(9, &[1, 2]),
-        Node::<P>::new(&setup::<P>(8)).unwrap(),
-    );
+    let (mut asker, mut replier) = (node::<P>(9, &[1, 2]), Node::new(&setup(8)).unwrap());
     let answer = exchange(&mut asker, &mut replier, seconds(100), seconds(100));
     assert_eq!(answer, Received::Applied(0));
 }
@@ -139,8 +136,8 @@ fn a_message_is_handed_on<P: Pair>() {
 
 fn a_long_reply_comes_whole<P: Pair>() {
     let numbers: Vec<u16> = (1..=200).collect();
-    let (mut asker, mut replier) = (node::<P>(1, &numbers), node::<P>(2, &numbers));
-    let infos: Vec<_> = numbers.iter().map(|number| info::<P>(*number, 1)).collect();
+    let (mut asker, mut replier) = (node::<P>(1, &numbers), node(2, &numbers));
+    let infos: Vec<_> = numbers.iter().map(|number| info(*number, 1)).collect();
     replier.directory_mut().update_peers(&infos).unwrap();
     let others = numbers.iter().filter(|number| **number != 2);
     let held: Vec<_> = others
@@ -157,12 +154,7 @@ fn a_long_reply_comes_whole<P: Pair>() {
 
 fn signatures_are_asked_for_in_order_and_no_more_than_decide<P: Pair>() {
     let mut node = node::<P>(9, &[1, 2, 3]);
-    let infos = vec![
-        info::<P>(1, 0),
-        info::<P>(2, 0),
-        info::<P>(9, 0),
-        info::<P>(3, 0),
-    ];
+    let infos = vec![info::<P>(1, 0), info(2, 0), info(9, 0), info(3, 0)];
     let frame = Payload::Peers(infos).encode();
     let mut asked = Vec::new();
     let answer = node.receive(&frame, seconds(1), |question| {
@@ -176,7 +168,7 @@ fn signatures_are_asked_for_in_order_and_no_more_than_decide<P: Pair>() {
 
 fn no_signature_is_asked_for_behind_one_that_is_not_right<P: Pair>() {
     let mut node = node::<P>(9, &[1, 2, 3]);
-    let frame = Payload::Peers(vec![info::<P>(1, 0), info::<P>(2, 0), info::<P>(3, 0)]).encode();
+    let frame = Payload::Peers(vec![info::<P>(1, 0), info::<P>(2, 0), info(3, 0)]).encode();
     let mut asked = Vec::new();
     let answer = node.receive(&frame, seconds(1), |question| {
         asked.push(question.public_key);
@@ -189,7 +181,7 @@ fn no_signature_is_asked_for_behind_one_that_is_not_right<P: Pair>() {
 
 fn what_is_refused_changes_nothing<P: Pair>() {
     let mut node = node::<P>(9, &[1, 2]);
-    let frame = Payload::Peers(vec![info::<P>(1, 0), info::<P>(2, 0)]).encode();
+    let frame = Payload::Peers(vec![info::<P>(1, 0), info(2, 0)]).encode();
     let refused = node.receive(&frame, seconds(1), |asked| asked.public_key == key::<P>(1));
     assert_eq!(refused, Received::Invalid(Error::InvalidSignature));
     assert_eq!(bits(&node), [false, false]);
@@ -223,9 +215,9 @@ fn a_scheme_of_ones_own_judges<P: Pair>() {
 fn bits_beyond_the_limit_of_frames_may_be_asked_for<P: Pair>() {
     let mut setup = setup::<P>(9);
     setup.payload.max_bit_vec = 1;
-    let mut node = Node::<P>::new(&setup).unwrap();
+    let mut node = Node::new(&setup).unwrap();
     let numbers = [key::<P>(1), key::<P>(2)];
-    let peers = OrderedSet::<P>::try_from(numbers).unwrap().into();
+    let peers = OrderedSet::try_from(numbers).unwrap().into();
     node.directory_mut()
         .track(0, &peers)
         .unwrap()
@@ -245,20 +237,20 @@ fn track_of_three<P: Pair>(
     index: u64,
     node: &mut Node<P>,
 ) -> Result<Tracked<P>, TrackError> {
-    let primary = OrderedSet::<P>::from_iter_dedup((1..=primary).map(key::<P>));
-    let secondary = OrderedSet::<P>::from_iter_dedup((11..=20).map(key::<P>));
-    node.track(index, &TrackedPeers::<P>::new(primary, secondary))
+    let primary = OrderedSet::from_iter_dedup((1..=primary).map(key::<P>));
+    let secondary = OrderedSet::from_iter_dedup((11..=20).map(key::<P>));
+    node.track(index, &TrackedPeers::new(primary, secondary))
 }
 
 fn a_set_about_which_a_node_could_not_be_asked_is_refused<P: Pair>() {
     let mut setup = setup::<P>(9);
     setup.payload.max_bit_vec = 3;
-    let mut node = Node::<P>::new(&setup).unwrap();
+    let mut node = Node::new(&setup).unwrap();
     let too_large = Err(TrackError::TooLarge {
         primary: 4,
         limit: 3,
     });
-    let nobody = Tracked::Accepted(OrderedSet::<P>::default());
+    let nobody = Tracked::Accepted(OrderedSet::default());
     assert_eq!(track_of_three(4, 0, &mut node), too_large);
     assert_eq!(node.directory().latest_set_index(), None);
     assert_eq!(node.directory().tracked(), 0);
@@ -275,17 +267,17 @@ fn a_set_above_the_limit_makes_a_correct_node_look_like_a_hostile_one<P: Pair>()
     let asker = node::<P>(8, &[1, 2, 3, 4]);
     let mut setup = setup::<P>(9);
     setup.payload.max_bit_vec = 3;
-    let mut replier = Node::<P>::new(&setup).unwrap();
-    let peers = OrderedSet::<P>::from_iter_dedup((1..=4).map(key::<P>)).into();
+    let mut replier = Node::new(&setup).unwrap();
+    let peers = OrderedSet::from_iter_dedup((1..=4).map(key::<P>)).into();
     let tracked = replier.directory_mut().track(0, &peers).unwrap();
-    assert_eq!(tracked, Tracked::Accepted(OrderedSet::<P>::default()));
+    assert_eq!(tracked, Tracked::Accepted(OrderedSet::default()));
     let question = asker.ask(0).unwrap().unwrap();
     let refused = Received::Codec(CodecError::InvalidLength(4));
     assert_eq!(replier.receive(&question, seconds(1), verify), refused);
 }
 
 fn a_node_takes_no_frame_for_another_directory<P: Pair>() {
-    let (mut one, mut other) = (node::<P>(9, &[1, 2]), testing::directory::<P>());
+    let (mut one, mut other) = (node::<P>(9, &[1, 2]), testing::directory());
     let greeting = Payload::Greeting(info::<P>(1, 0)).encode();
     let judged = one.check(&greeting, seconds(1)).unwrap();
     let judged = judged.judged([true]).unwrap();
@@ -297,7 +289,7 @@ fn a_node_takes_no_frame_for_another_directory<P: Pair>() {
         one.check(&greeting, seconds(1)).is_ok()
     }));
     let asks = catch_unwind(AssertUnwindSafe(|| one.ask(0)));
-    let empty = TrackedPeers::<P>::default();
+    let empty = TrackedPeers::default();
     let tracks = catch_unwind(AssertUnwindSafe(|| one.track(9, &empty).is_ok()));
     let nothing = nothing_known(0, 2);
     let replies = catch_unwind(AssertUnwindSafe(|| {
@@ -316,7 +308,7 @@ fn a_node_takes_no_frame_for_another_directory<P: Pair>() {
 
 fn a_closure_that_panics_changes_nothing<P: Pair>() {
     let mut node = node::<P>(9, &[1, 2]);
-    let frame = Payload::Peers(vec![info::<P>(1, 0), info::<P>(2, 0)]).encode();
+    let frame = Payload::Peers(vec![info::<P>(1, 0), info(2, 0)]).encode();
     let panicked = catch_unwind(AssertUnwindSafe(|| {
         node.receive(&frame, seconds(1), |question| {
             assert_ne!(question.public_key, key::<P>(2));
@@ -347,8 +339,8 @@ fn a_bound_below_a_second_counts<P: Pair>() {
 
 // A node that is connected with 1, 2 and 3, and knows their addresses.
 fn gossiping<P: Pair>() -> (Node<P>, [Reservation<P>; 3]) {
-    let mut node = node::<P>(9, &[1, 2, 3]);
-    let infos = [1, 2, 3].map(|number| info::<P>(number, 0));
+    let mut node = node(9, &[1, 2, 3]);
+    let infos = [1, 2, 3].map(|number| info(number, 0));
     node.directory_mut().update_peers(&infos).unwrap();
     let held = [1, 2, 3].map(|number| connected(&mut node, number));
     (node, held)
@@ -405,8 +397,8 @@ fn a_greeting_says_who_greets<P: Pair>() {
 fn sets_are_counted_while_they_are_retained<P: Pair>() {
     let mut setup = setup::<P>(9);
     setup.cfg.max_sets = NonZeroUsize::new(2).unwrap();
-    let mut node = Node::<P>::new(&setup).unwrap();
-    let set = TrackedPeers::<P>::from(OrderedSet::<P>::from_iter_dedup([key::<P>(1)]));
+    let mut node = Node::new(&setup).unwrap();
+    let set = TrackedPeers::from(OrderedSet::from_iter_dedup([key::<P>(1)]));
     let counts = [0, 1, 2].map(|index| {
         node.directory_mut()
             .track(index, &set)
@@ -428,7 +420,7 @@ fn shared<P: Pair>(own: &Info<P>, connected: &[u16], now: u64, bits: &[bool]) ->
     for (number, known) in (1..).zip(bits) {
         let told = match number {
             _ if key::<P>(number) == own.public_key => own.clone(),
-            _ if connected.contains(&number) => info::<P>(number, number.into()),
+            _ if connected.contains(&number) => info(number, number.into()),
             _ => continue,
         };
         if !known && told.timestamp <= now {
@@ -461,8 +453,8 @@ fn few_connections_of_many_peers_are_all_that_is_shared<P: Pair>() {
         .collect();
     // The local node is the first of the peers, one of them, the last, and none.
     for own in [1, 200, COUNT, COUNT + 1] {
-        let mine = setup::<P>(own).myself;
-        let mut node = node::<P>(own, &numbers);
+        let mine = setup(own).myself;
+        let mut node = node(own, &numbers);
         node.directory_mut().update_peers(&infos).unwrap();
         let mut peers = Vec::new();
         let mut held = Vec::new();

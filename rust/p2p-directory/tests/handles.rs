@@ -20,10 +20,10 @@ const NOW: Moment = Moment::from_secs(100);
 
 fn directories_live_beside_each_other<P: Pair>() {
     let mut directories: Vec<Directory<P>> = (1..=20)
-        .map(|number| Directory::<P>::init(&[], &info::<P>(number, 0), config()).unwrap())
+        .map(|number| Directory::init(&[], &info(number, 0), config()).unwrap())
         .collect();
     for (index, directory) in (0..).zip(&mut directories) {
-        let peers = OrderedSet::<P>::from_iter_dedup((1..=30).map(key::<P>)).into();
+        let peers = OrderedSet::from_iter_dedup((1..=30).map(key::<P>)).into();
         directory.track(index, &peers).unwrap().accepted().unwrap();
         assert_eq!(directory.tracked(), 29);
         let granted = directory
@@ -41,9 +41,9 @@ fn directories_live_beside_each_other<P: Pair>() {
 }
 
 fn nodes_answer_frames_of_each_other<P: Pair>() {
-    let mut nodes = [1, 2].map(|number| Node::<P>::new(&setup::<P>(number)).unwrap());
+    let mut nodes = [1, 2].map(|number| Node::<P>::new(&setup(number)).unwrap());
     for node in &mut nodes {
-        let peers = OrderedSet::<P>::from_iter_dedup((1..=30).map(key::<P>)).into();
+        let peers = OrderedSet::from_iter_dedup((1..=30).map(key::<P>)).into();
         node.directory_mut()
             .track(0, &peers)
             .unwrap()

@@ -41,7 +41,7 @@ fn key_bytes<P: Pair>(number: u8) -> Vec<u8> {
 }
 
 fn set<P: Pair>(numbers: &[u8]) -> TrackedPeers<P> {
-    OrderedSet::<P>::from_iter_dedup(numbers.iter().map(|number| key::<P>(*number))).into()
+    OrderedSet::from_iter_dedup(numbers.iter().map(|number| key::<P>(*number))).into()
 }
 
 fn what_holds_a_key_is_sent<P: Pair>() {
@@ -105,7 +105,7 @@ fn frames_of_nodes_have_the_bytes_of_the_formats<P: Pair>() {
 
     let mut nodes = [1, 2].map(|number| Node::<P>::new(&testing::setup(number)).unwrap());
     for node in &mut nodes {
-        let _ = node.track(0, &set::<P>(&[1, 2])).unwrap();
+        let _ = node.track(0, &set(&[1, 2])).unwrap();
     }
     let [asker, replier] = &mut nodes;
     // Each knows itself: the bit of 1 is the lowest.
@@ -128,12 +128,12 @@ fn a_peer_is_reserved_connected_and_released<P: Pair>() {
     let mut directory = testing::directory::<P>();
     let peer = key::<P>(1);
     assert_eq!(directory.status(&peer), None);
-    let torn = directory.track(0, &set::<P>(&[1, 2])).unwrap();
+    let torn = directory.track(0, &set(&[1, 2])).unwrap();
     assert_eq!(torn, Tracked::Accepted(OrderedSet::default()));
-    assert_eq!(directory.get_peer_set(0).unwrap(), Some(set::<P>(&[2, 1])));
-    assert_eq!(directory.all().unwrap(), set::<P>(&[1, 2]));
+    assert_eq!(directory.get_peer_set(0).unwrap(), Some(set(&[2, 1])));
+    assert_eq!(directory.all().unwrap(), set(&[1, 2]));
     let update = directory.latest_update().unwrap().expect("a set");
-    assert_eq!((update.index, update.latest), (0, set::<P>(&[1, 2])));
+    assert_eq!((update.index, update.latest), (0, set(&[1, 2])));
     assert_eq!(directory.status(&peer), Some(Status::Inert));
     assert!(directory.acceptable(&peer, NOW));
 
@@ -143,12 +143,9 @@ fn a_peer_is_reserved_connected_and_released<P: Pair>() {
     assert_eq!(directory.status(&peer), Some(Status::Reserved));
     assert_eq!(directory.connect_reserved(&reservation), Ok(()));
     assert_eq!(directory.status(&peer), Some(Status::Active));
-    let torn = directory.track(1, &set::<P>(&[2])).unwrap();
-    assert_eq!(
-        torn,
-        Tracked::Accepted(OrderedSet::<P>::from_iter_dedup([peer]))
-    );
-    assert_eq!(directory.track(1, &set::<P>(&[1])).unwrap(), Tracked::Stale);
+    let torn = directory.track(1, &set(&[2])).unwrap();
+    assert_eq!(torn, Tracked::Accepted(OrderedSet::from_iter_dedup([peer])));
+    assert_eq!(directory.track(1, &set(&[1])).unwrap(), Tracked::Stale);
     assert!(directory.release(reservation).is_ok());
     assert_eq!(directory.status(&peer), None);
 
@@ -169,8 +166,8 @@ fn a_peer_is_reserved_connected_and_released<P: Pair>() {
 
 fn a_peer_is_dialled_at_its_address<P: Pair>() {
     let mut directory = testing::directory::<P>();
-    let (peer, info) = (testing::key::<P>(1), testing::info::<P>(1, 1000));
-    let peers = OrderedSet::<P>::from_iter_dedup([peer]).into();
+    let (peer, info) = (testing::key::<P>(1), testing::info(1, 1000));
+    let peers = OrderedSet::from_iter_dedup([peer]).into();
     let _ = directory.track(0, &peers).unwrap();
     directory.update_peers(std::slice::from_ref(&info)).unwrap();
     assert_eq!(directory.dialable(NOW).unwrap().peers, [peer]);
@@ -188,9 +185,9 @@ fn a_peer_is_dialled_at_its_address<P: Pair>() {
 fn infos_go_from_node_to_node<P: Pair>() {
     let (one, two) = (testing::key::<P>(1), testing::key::<P>(2));
     let mut asker = Node::<P>::new(&testing::setup(1)).unwrap();
-    let mut replier = Node::<P>::new(&testing::setup(2)).unwrap();
+    let mut replier = Node::new(&testing::setup(2)).unwrap();
     for node in [&mut asker, &mut replier] {
-        let peers = OrderedSet::<P>::from_iter_dedup([one, two]).into();
+        let peers = OrderedSet::from_iter_dedup([one, two]).into();
         let _ = node.track(0, &peers).unwrap();
     }
     let question = asker.ask(0).unwrap().expect("a set");
@@ -220,7 +217,7 @@ fn infos_go_from_node_to_node<P: Pair>() {
     let me = asker.receive(&of_itself, NOW, testing::verify);
     assert_eq!(me, Received::Invalid(Error::ReceivedSelf));
 
-    let verifier = Info::<P>::verifier(one, 8, Duration::ZERO, testing::NAMESPACE).unwrap();
+    let verifier = Info::verifier(one, 8, Duration::ZERO, testing::NAMESPACE).unwrap();
     assert_eq!(verifier.validate_info(NOW, &own, testing::verify), Ok(()));
 }
 

@@ -40,7 +40,7 @@ const NOW: Moment = Moment::from_secs(100);
 
 fn track<P: Pair>(directory: &mut Directory<P>, index: u64, numbers: &[u16]) {
     let keys = numbers.iter().map(|number| key::<P>(*number));
-    let peers = OrderedSet::<P>::from_iter_dedup(keys).into();
+    let peers = OrderedSet::from_iter_dedup(keys).into();
     directory.track(index, &peers).unwrap().accepted().unwrap();
 }
 
@@ -71,7 +71,7 @@ fn bits<P: Pair>(directory: &Directory<P>) -> String {
 
 fn bootstrapped<P: Pair>() -> Directory<P> {
     let at = Ingress::from(SocketAddr::from(([127, 0, 0, 1], 8080)));
-    Directory::<P>::init(&[(key::<P>(1), at)], &info::<P>(9, 0), config()).unwrap()
+    Directory::init(&[(key::<P>(1), at)], &info(9, 0), config()).unwrap()
 }
 
 // Without a cooldown.
@@ -80,7 +80,7 @@ fn quick<P: Pair>() -> Directory<P> {
         peer_connection_cooldown: Duration::ZERO,
         ..config()
     };
-    Directory::<P>::init(&[], &info::<P>(9, 0), cfg).unwrap()
+    Directory::init(&[], &info(9, 0), cfg).unwrap()
 }
 
 fn test_unknown_initial_state<P: Pair>() {
@@ -98,7 +98,7 @@ fn test_myself_initial_state<P: Pair>() {
     let mut directory = directory::<P>();
     track(&mut directory, 0, &[9]);
     assert_eq!(directory.status(&key::<P>(9)), Some(Status::Inert));
-    assert_eq!(directory.info(&key::<P>(9)).unwrap(), Some(info::<P>(9, 0)));
+    assert_eq!(directory.info(&key::<P>(9)).unwrap(), Some(info(9, 0)));
     assert_eq!(bits(&directory), "1");
     assert!(!directory.eligible(&key::<P>(9), NOW));
     assert!(listen(&mut directory, 9, NOW).is_none());
@@ -118,7 +118,7 @@ fn test_bootstrapper_initial_state<P: Pair>() {
 fn test_unknown_to_discovered<P: Pair>() {
     let mut directory = directory::<P>();
     track(&mut directory, 0, &[1]);
-    directory.update_peers(&[info::<P>(1, 1000)]).unwrap();
+    directory.update_peers(&[info(1, 1000)]).unwrap();
     assert_eq!(bits(&directory), "1");
     assert_eq!(directory.info(&key::<P>(1)).unwrap(), None);
     assert_eq!(directory.dialable(NOW).unwrap().peers, [key::<P>(1)]);
@@ -126,7 +126,7 @@ fn test_unknown_to_discovered<P: Pair>() {
 
 fn test_bootstrapper_to_discovered<P: Pair>() {
     let mut directory = bootstrapped::<P>();
-    directory.update_peers(&[info::<P>(1, 1000)]).unwrap();
+    directory.update_peers(&[info(1, 1000)]).unwrap();
     let granted = dial(&mut directory, 1, NOW).unwrap();
     let at = info::<P>(1, 1000).ingress;
     assert_eq!(granted.metadata(), &Metadata::Dialer(key::<P>(1), at));
@@ -138,12 +138,12 @@ fn test_bootstrapper_to_discovered<P: Pair>() {
 fn test_discovered_update_newer_timestamp<P: Pair>() {
     let mut directory = directory::<P>();
     track(&mut directory, 0, &[1]);
-    let infos = [info_at::<P>(1, 1000, 80), info_at::<P>(1, 2000, 81)];
+    let infos = [info_at(1, 1000, 80), info_at(1, 2000, 81)];
     directory.update_peers(&infos).unwrap();
     let held = listen(&mut directory, 1, NOW).unwrap();
     directory.connect(&key::<P>(1), false).unwrap();
     let told = directory.info(&key::<P>(1)).unwrap();
-    assert_eq!(told, Some(info_at::<P>(1, 2000, 81)));
+    assert_eq!(told, Some(info_at(1, 2000, 81)));
     directory.release(held).unwrap();
 }
 
@@ -152,30 +152,23 @@ fn test_discovered_no_update_older_or_equal_timestamp<P: Pair>() {
     track(&mut directory, 0, &[1]);
     let held = listen(&mut directory, 1, NOW).unwrap();
     directory.connect(&key::<P>(1), false).unwrap();
-    for offered in [
-        info::<P>(1, 1000),
-        info_at::<P>(1, 500, 80),
-        info_at::<P>(1, 1000, 81),
-    ] {
+    for offered in [info(1, 1000), info_at(1, 500, 80), info_at(1, 1000, 81)] {
         directory.update_peers(&[offered]).unwrap();
-        assert_eq!(
-            directory.info(&key::<P>(1)).unwrap(),
-            Some(info::<P>(1, 1000))
-        );
+        assert_eq!(directory.info(&key::<P>(1)).unwrap(), Some(info(1, 1000)));
     }
     directory.release(held).unwrap();
 }
 
 fn test_update_myself<P: Pair>() {
     let mut directory = directory::<P>();
-    directory.update_peers(&[info_at::<P>(9, 300, 80)]).unwrap();
-    assert_eq!(directory.info(&key::<P>(9)).unwrap(), Some(info::<P>(9, 0)));
+    directory.update_peers(&[info_at(9, 300, 80)]).unwrap();
+    assert_eq!(directory.info(&key::<P>(9)).unwrap(), Some(info(9, 0)));
 }
 
 fn test_increment_decrement_and_deletable<P: Pair>() {
     let mut directory = bootstrapped::<P>();
     track(&mut directory, 0, &[1, 2]);
-    directory.update_peers(&[info::<P>(2, 1000)]).unwrap();
+    directory.update_peers(&[info(2, 1000)]).unwrap();
     track(&mut directory, 1, &[2]);
     assert_eq!(directory.status(&key::<P>(2)), Some(Status::Inert));
     assert_eq!(bits(&directory), "1");
@@ -196,7 +189,7 @@ fn test_increment_decrement_and_deletable<P: Pair>() {
 fn test_is_blockable<P: Pair>() {
     let mut directory = bootstrapped::<P>();
     track(&mut directory, 0, &[2, 3]);
-    directory.update_peers(&[info::<P>(3, 1000)]).unwrap();
+    directory.update_peers(&[info(3, 1000)]).unwrap();
     for number in [1, 2, 3, 4] {
         assert!(directory.block(&key::<P>(number), NOW).unwrap());
     }
@@ -225,7 +218,7 @@ fn test_needs_teardown_after_losing_eligibility<P: Pair>() {
     let reserved = listen(&mut directory, 1, NOW).unwrap();
     let connected = listen(&mut directory, 2, NOW).unwrap();
     directory.connect(&key::<P>(2), false).unwrap();
-    let peers = OrderedSet::<P>::from_iter_dedup([key::<P>(3)]).into();
+    let peers = OrderedSet::from_iter_dedup([key::<P>(3)]).into();
     let torn = directory.track(1, &peers).unwrap().accepted().unwrap();
     assert_eq!(torn.to_vec(), [key::<P>(1), key::<P>(2)]);
     for held in [reserved, connected] {
@@ -257,15 +250,12 @@ fn test_sharable_logic<P: Pair>() {
     let mut directory = directory::<P>();
     track(&mut directory, 0, &[1]);
     assert_eq!(directory.info(&key::<P>(1)).unwrap(), None);
-    directory.update_peers(&[info::<P>(1, 1000)]).unwrap();
+    directory.update_peers(&[info(1, 1000)]).unwrap();
     assert_eq!(directory.info(&key::<P>(1)).unwrap(), None);
     let held = listen(&mut directory, 1, NOW).unwrap();
     assert_eq!(directory.info(&key::<P>(1)).unwrap(), None);
     directory.connect(&key::<P>(1), false).unwrap();
-    assert_eq!(
-        directory.info(&key::<P>(1)).unwrap(),
-        Some(info::<P>(1, 1000))
-    );
+    assert_eq!(directory.info(&key::<P>(1)).unwrap(), Some(info(1, 1000)));
     directory.release(held).unwrap();
     assert_eq!(directory.info(&key::<P>(1)).unwrap(), None);
 }
@@ -285,7 +275,7 @@ fn test_dial_failure_and_dial_success<P: Pair>() {
     failures_are_counted_of_the_address_of_the_info::<P>();
     let mut directory = quick::<P>();
     track(&mut directory, 0, &[1]);
-    directory.update_peers(&[info::<P>(1, 1000)]).unwrap();
+    directory.update_peers(&[info(1, 1000)]).unwrap();
     let failed = dial(&mut directory, 1, NOW).unwrap();
     directory.release(failed).unwrap();
     assert_eq!(bits(&directory), "0");
@@ -296,7 +286,7 @@ fn test_dial_failure_and_dial_success<P: Pair>() {
     directory.release(held).unwrap();
     assert_eq!(bits(&directory), "0");
     // That of an inbound one doesn't.
-    directory.update_peers(&[info::<P>(1, 1001)]).unwrap();
+    directory.update_peers(&[info(1, 1001)]).unwrap();
     let held = listen(&mut directory, 1, NOW).unwrap();
     directory.release(held).unwrap();
     assert_eq!(bits(&directory), "1");
@@ -311,7 +301,7 @@ fn failures_are_counted_of_the_address_of_the_info<P: Pair>() {
         ..config()
     };
     let at = Ingress::from(SocketAddr::from(([127, 0, 0, 1], 8080)));
-    let mut directory = Directory::<P>::init(&[(key::<P>(1), at)], &info::<P>(9, 0), cfg).unwrap();
+    let mut directory = Directory::init(&[(key::<P>(1), at)], &info(9, 0), cfg).unwrap();
     track(&mut directory, 0, &[1]);
     let fail = |directory: &mut Directory<P>| {
         let failed = dial(directory, 1, NOW).unwrap();
@@ -321,15 +311,13 @@ fn failures_are_counted_of_the_address_of_the_info<P: Pair>() {
     for _ in 0..3 {
         assert_eq!(fail(&mut directory), "0");
     }
-    directory.update_peers(&[info::<P>(1, 1000)]).unwrap();
+    directory.update_peers(&[info(1, 1000)]).unwrap();
     assert_eq!(bits(&directory), "1");
     assert_eq!(fail(&mut directory), "1");
     assert_eq!(fail(&mut directory), "1");
     // Its reservation is of the address before the info that comes meanwhile.
     let held = dial(&mut directory, 1, NOW).unwrap();
-    directory
-        .update_peers(&[info_at::<P>(1, 1001, 80)])
-        .unwrap();
+    directory.update_peers(&[info_at(1, 1001, 80)]).unwrap();
     directory.release(held).unwrap();
     assert_eq!(bits(&directory), "1");
     assert_eq!([fail(&mut directory), fail(&mut directory)], ["1", "1"]);
@@ -350,9 +338,9 @@ fn a_dial_that_succeeds_takes_back_the_failures_before<P: Pair>() {
             peer_connection_cooldown: Duration::ZERO,
             ..config()
         };
-        let mut directory = Directory::<P>::init(&[], &info::<P>(9, 0), cfg).unwrap();
+        let mut directory = Directory::<P>::init(&[], &info(9, 0), cfg).unwrap();
         track(&mut directory, 0, &[1]);
-        directory.update_peers(&[info::<P>(1, 1000)]).unwrap();
+        directory.update_peers(&[info(1, 1000)]).unwrap();
         let failed = dial(&mut directory, 1, NOW).unwrap();
         directory.release(failed).unwrap();
         let held = dial(&mut directory, 1, NOW).unwrap();
@@ -366,11 +354,9 @@ fn a_dial_of_an_address_that_was_replaced_is_no_failure<P: Pair>() {
     for (port, known) in [(8001, "0"), (8002, "1")] {
         let mut directory = quick::<P>();
         track(&mut directory, 0, &[1]);
-        directory.update_peers(&[info::<P>(1, 1000)]).unwrap();
+        directory.update_peers(&[info(1, 1000)]).unwrap();
         let held = dial(&mut directory, 1, NOW).unwrap();
-        directory
-            .update_peers(&[info_at::<P>(1, 1001, port)])
-            .unwrap();
+        directory.update_peers(&[info_at(1, 1001, port)]).unwrap();
         directory.release(held).unwrap();
         assert_eq!(bits(&directory), known);
     }
@@ -382,10 +368,10 @@ fn test_want_logic_with_min_fails<P: Pair>() {
         peer_connection_cooldown: Duration::ZERO,
         ..config()
     };
-    let mut directory = Directory::<P>::init(&[], &info::<P>(9, 0), cfg).unwrap();
+    let mut directory = Directory::<P>::init(&[], &info(9, 0), cfg).unwrap();
     track(&mut directory, 0, &[1, 9]);
     assert_eq!(bits(&directory), "01");
-    directory.update_peers(&[info::<P>(1, 1000)]).unwrap();
+    directory.update_peers(&[info(1, 1000)]).unwrap();
     for known in ["11", "01"] {
         let held = dial(&mut directory, 1, NOW).unwrap();
         directory.release(held).unwrap();
@@ -399,7 +385,7 @@ fn test_want_logic_with_min_fails<P: Pair>() {
     directory.release(held).unwrap();
     assert_eq!(bits(&directory), "01");
     // A newer info has no failures yet, and they count again.
-    directory.update_peers(&[info::<P>(1, 1001)]).unwrap();
+    directory.update_peers(&[info(1, 1001)]).unwrap();
     assert_eq!(bits(&directory), "11");
     for known in ["11", "01"] {
         let held = dial(&mut directory, 1, NOW).unwrap();
@@ -445,7 +431,7 @@ fn test_reserve_with_unbounded_cooldown_does_not_panic<P: Pair>() {
         peer_connection_cooldown: Duration::MAX,
         ..config()
     };
-    let mut directory = Directory::<P>::init(&[], &info::<P>(9, 0), cfg).unwrap();
+    let mut directory = Directory::<P>::init(&[], &info(9, 0), cfg).unwrap();
     track(&mut directory, 0, &[1]);
     let granted = directory.listen(&key::<P>(1), NOW, Duration::MAX).unwrap();
     directory.release(granted.unwrap()).unwrap();

@@ -87,10 +87,10 @@ fn a_log_has_each_call_and_its_answer<P: Pair>() {
     let kept = Kept::default();
     let recorder = Recorder::new(kept.clone(), 1 << 20);
     let setup = testing::setup::<P>(9);
-    let mut directory = Directory::<P>::init_recorded(&[], &setup.myself, setup.cfg, recorder)
-        .expect("a directory");
+    let mut directory =
+        Directory::init_recorded(&[], &setup.myself, setup.cfg, recorder).expect("a directory");
     let peer = testing::key::<P>(1);
-    let set = OrderedSet::<P>::from_iter_dedup([peer]);
+    let set = OrderedSet::from_iter_dedup([peer]);
     let _ = directory.track(7, &set.into()).expect("memory");
     let held = directory.listen(&peer, Moment::from_secs(100), std::time::Duration::ZERO);
     drop(held.expect("memory").expect("a grant"));
@@ -458,7 +458,7 @@ fn a_log_of_version_1_is_read() {
 fn recorded<P: Pair>(calls: impl FnOnce(&mut Node<P>)) -> Vec<u8> {
     let kept = Kept::default();
     let recorder = Recorder::new(kept.clone(), 1 << 20);
-    let mut node = Node::<P>::new_recorded(&testing::setup(9), recorder).expect("a node");
+    let mut node = Node::new_recorded(&testing::setup(9), recorder).expect("a node");
     calls(&mut node);
     drop(node);
     kept.bytes()

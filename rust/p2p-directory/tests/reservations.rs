@@ -41,15 +41,15 @@ const NOW: Moment = Moment::from_secs(100);
 const LATER: Moment = Moment::from_secs(110);
 
 fn set<P: Pair>(numbers: &[u16]) -> OrderedSet<P> {
-    OrderedSet::<P>::from_iter_dedup(numbers.iter().map(|number| key::<P>(*number)))
+    OrderedSet::from_iter_dedup(numbers.iter().map(|number| key::<P>(*number)))
 }
 
 // Peers 1 and 2 are in its set, and the address of 1 is known.
 fn directory<P: Pair>() -> Directory<P> {
-    let mut directory = testing::directory::<P>();
-    let taken = directory.track(0, &set::<P>(&[1, 2]).into()).unwrap();
-    assert_eq!(taken, Tracked::Accepted(set::<P>(&[])));
-    directory.update_peers(&[info::<P>(1, 1000)]).unwrap();
+    let mut directory = testing::directory();
+    let taken = directory.track(0, &set(&[1, 2]).into()).unwrap();
+    assert_eq!(taken, Tracked::Accepted(set(&[])));
+    directory.update_peers(&[info(1, 1000)]).unwrap();
     directory
 }
 
@@ -113,17 +113,17 @@ fn track_tears_down_nobody_who_is_released<P: Pair>() {
     let held = listened(&mut directory, 2);
     drop(listened(&mut directory, 1));
     // Both leave the only retained set, and 2 is still reserved.
-    let torn = directory.track(1, &set::<P>(&[3]).into());
-    assert_eq!(torn, Ok(Tracked::Accepted(set::<P>(&[2]))));
+    let torn = directory.track(1, &set(&[3]).into());
+    assert_eq!(torn, Ok(Tracked::Accepted(set(&[2]))));
     assert_eq!(directory.status(&key::<P>(1)), None);
     directory.release(held).unwrap();
 }
 
 fn receive_replies_without_the_released<P: Pair>() {
-    let mut node = Node::<P>::new(&setup::<P>(9)).unwrap();
+    let mut node = Node::<P>::new(&setup(9)).unwrap();
     let directory = node.directory_mut();
-    let _ = directory.track(0, &set::<P>(&[1, 2]).into()).unwrap();
-    directory.update_peers(&[info::<P>(1, 1000)]).unwrap();
+    let _ = directory.track(0, &set(&[1, 2]).into()).unwrap();
+    directory.update_peers(&[info(1, 1000)]).unwrap();
     let held = dialled(directory);
     directory.connect_reserved(&held).unwrap();
     let question = Payload::<P>::BitVec(BitVec {
@@ -152,7 +152,7 @@ fn a_dial_that_is_dropped_has_failed<P: Pair>() {
 fn many_are_dropped_in_whatever_order<P: Pair>() {
     let numbers: Vec<u16> = (10..60).collect();
     let mut directory = testing::directory::<P>();
-    let _ = directory.track(0, &set::<P>(&numbers).into()).unwrap();
+    let _ = directory.track(0, &set(&numbers).into()).unwrap();
     for now in [NOW, LATER, Moment::from_secs(220)] {
         let mut held: Vec<_> = numbers
             .iter()
@@ -182,7 +182,7 @@ fn one_may_be_dropped_on_another_thread<P: Pair>() {
 fn threads_may_drop_while_calls_are_made<P: Pair>() {
     let numbers: Vec<u16> = (10..42).collect();
     let mut directory = testing::directory::<P>();
-    let _ = directory.track(0, &set::<P>(&numbers).into()).unwrap();
+    let _ = directory.track(0, &set(&numbers).into()).unwrap();
     thread::scope(|scope| {
         for number in &numbers {
             let held = listened(&mut directory, *number);
@@ -228,7 +228,7 @@ fn gives_to<P: Pair>(
 }
 
 fn what_another_directory_refuses_goes_back_to_its_own<P: Pair>() {
-    let (mut own, mut other) = (directory::<P>(), directory::<P>());
+    let (mut own, mut other) = (directory::<P>(), directory());
     let (held, others) = (listened(&mut own, 1), listened(&mut other, 1));
     let refused = gives_to(&mut other, held).unwrap_err();
     assert_eq!(refused.reservation.public_key(), &key::<P>(1));
@@ -273,9 +273,9 @@ fn a_dialer_and_a_listener_are_connected_as_such<P: Pair>() {
     let mut limit = config();
     limit.dial_fail_limit = 2;
     let told = [false, true].map(|is_connected| {
-        let mut directory = Directory::<P>::init(&[], &info::<P>(9, 0), limit).unwrap();
-        let _ = directory.track(0, &set::<P>(&[1]).into()).unwrap();
-        directory.update_peers(&[info::<P>(1, 1000)]).unwrap();
+        let mut directory = Directory::<P>::init(&[], &info(9, 0), limit).unwrap();
+        let _ = directory.track(0, &set(&[1]).into()).unwrap();
+        directory.update_peers(&[info(1, 1000)]).unwrap();
         drop(dialled(&mut directory));
         let dial = directory.dial(&key::<P>(1), LATER, Duration::ZERO);
         let held = dial.unwrap().expect("it is dialable");
@@ -288,9 +288,9 @@ fn a_dialer_and_a_listener_are_connected_as_such<P: Pair>() {
     // A connection that was dialled resets the failures before it.
     assert_eq!(told, [[false], [true]]);
     // One that came resets nothing: the failure before it counts with the one after it.
-    let mut directory = Directory::<P>::init(&[], &info::<P>(9, 0), limit).unwrap();
-    let _ = directory.track(0, &set::<P>(&[1]).into()).unwrap();
-    directory.update_peers(&[info::<P>(1, 1000)]).unwrap();
+    let mut directory = Directory::<P>::init(&[], &info(9, 0), limit).unwrap();
+    let _ = directory.track(0, &set(&[1]).into()).unwrap();
+    directory.update_peers(&[info(1, 1000)]).unwrap();
     drop(dialled(&mut directory));
     let listen = directory.listen(&key::<P>(1), LATER, Duration::ZERO);
     let held = listen.unwrap().expect("it is acceptable");
@@ -304,7 +304,7 @@ fn a_dialer_and_a_listener_are_connected_as_such<P: Pair>() {
 }
 
 fn connect_reserved_refuses_by_name<P: Pair>() {
-    let (mut own, mut other) = (directory::<P>(), directory::<P>());
+    let (mut own, mut other) = (directory::<P>(), directory());
     let (held, others) = (listened(&mut own, 1), listened(&mut other, 1));
     let refused = other.connect_reserved(&held);
     assert_eq!(refused, Err(ConnectError::OfAnotherDirectory));

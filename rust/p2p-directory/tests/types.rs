@@ -162,7 +162,7 @@ fn is_allowed<P: Pair>(ingress: &Ingress, allow_private_ips: bool, allow_dns: bo
         ..config()
     };
     let bootstrappers = vec![(key::<P>(1), ingress.clone())];
-    let directory = Directory::<P>::init(&bootstrappers, &info::<P>(9, 0), cfg).unwrap();
+    let directory = Directory::<P>::init(&bootstrappers, &info(9, 0), cfg).unwrap();
     directory.dialable(Moment::EPOCH).unwrap().peers == [key::<P>(1)]
 }
 
@@ -202,7 +202,7 @@ fn test_data_codec<P: Pair>() {
         ..LIMITS
     };
     let read = Payload::<P>::decode(&frame, &limits(13));
-    assert_eq!(read, Ok(Payload::<P>::Data(data)));
+    assert_eq!(read, Ok(Payload::Data(data)));
     assert_eq!(
         Payload::<P>::decode(&frame, &limits(12)),
         Err(CodecError::InvalidLength(13))
@@ -256,7 +256,7 @@ fn test_max_gossip_size_bounds_payloads<P: Pair>() {
         let most = max_gossip_size::<P>(bits, peers).unwrap();
         let payloads = [
             Payload::Greeting(longest.clone()),
-            Payload::<P>::BitVec(BitVec {
+            Payload::BitVec(BitVec {
                 index: u64::MAX,
                 bits: vec![true; bits as usize],
             }),
@@ -305,13 +305,13 @@ fn test_bit_vec_codec<P: Pair>() {
     assert_eq!(frame.len(), 1 + 2 + 1 + 9);
     assert_eq!(
         Payload::<P>::decode(&frame, &LIMITS),
-        Ok(Payload::<P>::BitVec(bits))
+        Ok(Payload::BitVec(bits))
     );
 }
 
 fn test_signed_peer_info_codec<P: Pair>() {
-    for info in [info::<P>(1, 0), info::<P>(2, 1000), info::<P>(3, u64::MAX)] {
-        let read = Info::<P>::decode(&info.encode()).unwrap();
+    for info in [info::<P>(1, 0), info::<P>(2, 1000), info(3, u64::MAX)] {
+        let read = Info::decode(&info.encode()).unwrap();
         assert_eq!(read, info);
         assert!(read.verify(NAMESPACE, verify));
     }
@@ -323,12 +323,12 @@ fn test_payload_codec<P: Pair>() {
             channel: 1,
             message: b"hello".to_vec(),
         }),
-        Payload::Greeting(info::<P>(1, 1000)),
-        Payload::<P>::BitVec(BitVec {
+        Payload::Greeting(info(1, 1000)),
+        Payload::BitVec(BitVec {
             index: 5,
             bits: vec![true; 9],
         }),
-        Payload::Peers(vec![info::<P>(1, 1000), info::<P>(2, 1000)]),
+        Payload::Peers(vec![info(1, 1000), info(2, 1000)]),
         Payload::Peers(Vec::new()),
     ];
     for payload in payloads {
@@ -337,7 +337,7 @@ fn test_payload_codec<P: Pair>() {
             let fault = Payload::<P>::decode(&frame[..end], &LIMITS);
             assert_eq!(fault, Err(CodecError::EndOfBuffer));
         }
-        assert_eq!(Payload::<P>::decode(&frame, &LIMITS), Ok(payload));
+        assert_eq!(Payload::decode(&frame, &LIMITS), Ok(payload));
     }
 }
 
@@ -368,7 +368,7 @@ fn test_payload_bitvec_respects_limit<P: Pair>() {
 }
 
 fn test_payload_peers_respects_limit<P: Pair>() {
-    let frame = Payload::Peers(vec![info::<P>(1, 1), info::<P>(2, 1)]).encode();
+    let frame = Payload::Peers(vec![info::<P>(1, 1), info(2, 1)]).encode();
     let limits = PayloadConfig {
         max_peers: 1,
         ..LIMITS
@@ -394,11 +394,11 @@ fn test_payload_data_respects_limit<P: Pair>() {
 // The result of a node with the key of number 9 for a list of infos at a time. A verifier returns
 // the same.
 fn judged<P: Pair>(infos: Vec<Info<P>>, now: Moment, greatest_count: usize) -> Received<P> {
-    let mut setup = setup::<P>(9);
+    let mut setup = setup(9);
     setup.peer_gossip_max_count = greatest_count;
     setup.synchrony_bound = BOUND;
-    let mut node = Node::<P>::new(&setup).unwrap();
-    let verifier = Info::<P>::verifier(key::<P>(9), greatest_count, BOUND, NAMESPACE).unwrap();
+    let mut node = Node::new(&setup).unwrap();
+    let verifier = Info::verifier(key::<P>(9), greatest_count, BOUND, NAMESPACE).unwrap();
     let validated = verifier.validate(now, &infos, verify);
     let received = node.receive(&Payload::Peers(infos).encode(), now, verify);
     let refused = match received {
@@ -417,7 +417,7 @@ fn info_verifier_accepts_valid_peer<P: Pair>() {
 }
 
 fn info_verifier_rejects_too_many_peers<P: Pair>() {
-    let answer = judged(vec![info::<P>(1, 0), info::<P>(2, 0)], NOW, 1);
+    let answer = judged(vec![info::<P>(1, 0), info(2, 0)], NOW, 1);
     assert_eq!(answer, Received::Invalid(Error::TooManyPeers(2)));
 }
 
@@ -444,7 +444,7 @@ fn info_verifier_allows_past_timestamp<P: Pair>() {
 
 fn signed_elsewhere<P: Pair>() -> Info<P> {
     let key = key::<P>(1);
-    Info::<P>::sign(
+    Info::sign(
         key,
         b"wrong-namespace",
         socket([8, 8, 4, 4], 8080),
@@ -461,22 +461,16 @@ fn info_verifier_rejects_invalid_signature<P: Pair>() {
 }
 
 fn the_first_refusal_in_list_order_is_answered<P: Pair>() {
-    let (own, future) = (info::<P>(9, 0), info::<P>(2, u64::MAX));
+    let (own, future) = (info::<P>(9, 0), info(2, u64::MAX));
     let cases = [
         (
-            vec![signed_elsewhere::<P>(), own.clone()],
+            vec![signed_elsewhere(), own.clone()],
             Error::InvalidSignature,
         ),
+        (vec![own.clone(), signed_elsewhere()], Error::ReceivedSelf),
+        (vec![info(3, 0), future.clone(), own], Error::SynchronyBound),
         (
-            vec![own.clone(), signed_elsewhere::<P>()],
-            Error::ReceivedSelf,
-        ),
-        (
-            vec![info::<P>(3, 0), future.clone(), own],
-            Error::SynchronyBound,
-        ),
-        (
-            vec![info::<P>(3, 0), signed_elsewhere::<P>(), future],
+            vec![info(3, 0), signed_elsewhere(), future],
             Error::InvalidSignature,
         ),
     ];
@@ -487,7 +481,7 @@ fn the_first_refusal_in_list_order_is_answered<P: Pair>() {
 
 fn named<P: Pair>(host: &str) -> Info<P> {
     let key = key::<P>(1);
-    Info::<P>::sign(key, NAMESPACE, name(host, 8080), 7, |namespace, message| {
+    Info::sign(key, NAMESPACE, name(host, 8080), 7, |namespace, message| {
         sign::<P>(&key, namespace, message)
     })
 }
@@ -501,7 +495,7 @@ fn info_with_dns_ingress_sign_and_verify<P: Pair>() {
 
 fn info_with_dns_ingress_codec<P: Pair>() {
     let info = named::<P>("validator-1.network.io");
-    assert_eq!(Info::<P>::decode(&info.encode()), Ok(info));
+    assert_eq!(Info::decode(&info.encode()), Ok(info));
 }
 
 fn info_verifier_accepts_dns_ingress<P: Pair>() {
@@ -517,7 +511,7 @@ fn info_verifier_accepts_dns_ingress_with_internal_hostname<P: Pair>() {
 fn info_verifier_validates_greeting_without_gossip_limit<P: Pair>() {
     let mut setup = setup::<P>(9);
     setup.peer_gossip_max_count = 0;
-    let mut node = Node::<P>::new(&setup).unwrap();
+    let mut node = Node::new(&setup).unwrap();
     let greeting = Payload::Greeting(info::<P>(1, 0)).encode();
     let greeted = node.receive(&greeting, NOW, verify);
     assert_eq!(greeted, Received::Greeted(key::<P>(1)));

@@ -25,8 +25,8 @@ tests_of_each_pair! {
 const NOW: Moment = Moment::from_secs(100);
 
 fn node<P: Pair>(number: u16) -> Node<P> {
-    let mut node = Node::<P>::new(&setup::<P>(number)).unwrap();
-    let peers = OrderedSet::<P>::from_iter_dedup((1..=3).map(key::<P>)).into();
+    let mut node = Node::new(&setup(number)).unwrap();
+    let peers = OrderedSet::from_iter_dedup((1..=3).map(key::<P>)).into();
     node.directory_mut()
         .track(0, &peers)
         .unwrap()
@@ -62,7 +62,7 @@ fn the_questions_are_those_of_the_frame<P: Pair>() {
     let questions = node.check(&frame, NOW).unwrap();
     assert_eq!(questions.namespace(), testing::NAMESPACE);
     assert_eq!((questions.len(), questions.iter().len()), (2, 2));
-    let told = [info::<P>(1, 5), info::<P>(2, 7)];
+    let told = [info::<P>(1, 5), info(2, 7)];
     for (asked, told) in questions.iter().zip(&told) {
         assert_eq!(asked.public_key, told.public_key);
         assert_eq!(asked.message, told.signed_bytes());
@@ -91,7 +91,7 @@ fn both_steps_answer_as_one<P: Pair>() {
         vec![],
     ];
     for frame in frames {
-        let (mut at_once, mut in_steps) = (node::<P>(9), node::<P>(9));
+        let (mut at_once, mut in_steps) = (node::<P>(9), node(9));
         let questions = in_steps.check(&frame, NOW).unwrap();
         let verdicts = verdicts(&questions);
         let judged = questions.judged(verdicts).unwrap();
@@ -162,7 +162,7 @@ fn verdicts_are_counted<P: Pair>() {
 }
 
 fn what_another_node_checked_is_refused_and_given_back<P: Pair>() {
-    let (mut one, mut other) = (node::<P>(9), node::<P>(8));
+    let (mut one, mut other) = (node::<P>(9), node(8));
     let frame = peers::<P>(&[(1, 5)]);
     let judged = one.check(&frame, NOW).unwrap().judged([true]).unwrap();
     let refused = other.receive_judged(judged).unwrap_err();
@@ -176,7 +176,7 @@ fn a_node_may_change_between_the_steps<P: Pair>() {
     let mut node = node::<P>(9);
     let frame = peers::<P>(&[(1, 5), (2, 5)]);
     let judged = node.check(&frame, NOW).unwrap().judged([true; 2]).unwrap();
-    let others = OrderedSet::<P>::from_iter_dedup([key::<P>(2), key::<P>(3)]).into();
+    let others = OrderedSet::from_iter_dedup([key::<P>(2), key::<P>(3)]).into();
     node.directory_mut()
         .track(1, &others)
         .unwrap()

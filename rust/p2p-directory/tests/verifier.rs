@@ -21,14 +21,14 @@ const BOUND: Duration = Duration::from_secs(30);
 
 // A verifier for key 9 and so many infos at a time.
 fn verifier<P: Pair>(count: usize) -> InfoVerifier<P> {
-    Info::<P>::verifier(key::<P>(9), count, BOUND, NAMESPACE).unwrap()
+    Info::verifier(key::<P>(9), count, BOUND, NAMESPACE).unwrap()
 }
 
 // An info that is signed in another namespace.
 fn of_another_namespace<P: Pair>(number: u16, timestamp: u64) -> Info<P> {
     let Info { ingress, .. } = info::<P>(number, timestamp);
     let signer = key::<P>(number);
-    Info::<P>::sign(
+    Info::sign(
         signer,
         b"other",
         ingress,
@@ -38,26 +38,23 @@ fn of_another_namespace<P: Pair>(number: u16, timestamp: u64) -> Info<P> {
 }
 
 fn lists_are_judged_by_number_key_time_and_signature<P: Pair>() {
-    let verifier = verifier::<P>(1);
+    let verifier = verifier(1);
     let judged = |infos: &[Info<P>]| verifier.validate(Moment::EPOCH, infos, verify);
     let refused = |error| Err(ValidateError::Invalid(error));
-    let two = [info::<P>(1, 0), info::<P>(2, 0)];
+    let two = [info(1, 0), info(2, 0)];
     assert_eq!(judged(&two), refused(Error::TooManyPeers(2)));
     assert_eq!(judged(&[]), Ok(()));
-    assert_eq!(judged(&[info::<P>(1, 30_000)]), Ok(()));
-    assert_eq!(
-        judged(&[info::<P>(1, 30_001)]),
-        refused(Error::SynchronyBound)
-    );
-    let own = of_another_namespace::<P>(9, 99_999);
+    assert_eq!(judged(&[info(1, 30_000)]), Ok(()));
+    assert_eq!(judged(&[info(1, 30_001)]), refused(Error::SynchronyBound));
+    let own = of_another_namespace(9, 99_999);
     assert_eq!(judged(&[own]), refused(Error::ReceivedSelf));
-    let stranger = of_another_namespace::<P>(1, 0);
+    let stranger = of_another_namespace(1, 0);
     assert_eq!(judged(&[stranger]), refused(Error::InvalidSignature));
 }
 
 fn one_info_is_judged_whatever_the_number_is<P: Pair>() {
     let verifier = verifier::<P>(0);
-    let one = info::<P>(1, 0);
+    let one = info(1, 0);
     let judged = verifier.validate_info(Moment::EPOCH, &one, verify);
     assert_eq!(judged, Ok(()));
     let judged = verifier.validate(Moment::EPOCH, &[one], verify);
@@ -68,7 +65,7 @@ fn one_info_is_judged_whatever_the_number_is<P: Pair>() {
 fn the_closure_is_asked_up_to_the_first_refusal<P: Pair>() {
     let verifier = verifier::<P>(4);
     let mut asked: Vec<P::Key> = Vec::new();
-    let infos = [1, 2, 3].map(|number| info::<P>(number, 0));
+    let infos = [1, 2, 3].map(|number| info(number, 0));
     let judged = verifier.validate(Moment::EPOCH, &infos, |question| {
         assert_eq!(question.namespace, NAMESPACE);
         asked.push(question.public_key);
@@ -80,10 +77,10 @@ fn the_closure_is_asked_up_to_the_first_refusal<P: Pair>() {
 }
 
 fn it_is_not_locked_while_signatures_are_verified<P: Pair>() {
-    let verifier = verifier::<P>(4);
-    let one = info::<P>(1, 0);
+    let verifier = verifier(4);
+    let one = info(1, 0);
     let within = |question: Question<'_, P>| {
-        let other = verifier.validate_info(Moment::EPOCH, &info::<P>(2, 0), verify);
+        let other = verifier.validate_info(Moment::EPOCH, &info(2, 0), verify);
         other == Ok(()) && verify(question)
     };
     assert_eq!(verifier.validate_info(Moment::EPOCH, &one, within), Ok(()));

@@ -79,7 +79,7 @@ impl<P: Pair> Informed<P> {
     fn new(limits: PayloadConfig) -> Informed<P> {
         let mut node = new_node(limits);
         let held = meet(&mut node, (1..=PEERS).map(key::<P>), SHARED.map(key::<P>));
-        let infos: Vec<Info<P>> = (1..=PEERS).map(|number| info::<P>(number, 7)).collect();
+        let infos: Vec<Info<P>> = (1..=PEERS).map(|number| info(number, 7)).collect();
         node.directory_mut().update_peers(&infos).expect(MEMORY);
         Informed {
             limits,
@@ -89,7 +89,7 @@ impl<P: Pair> Informed<P> {
     }
 
     fn compare(&mut self, frame: &[u8]) -> Option<Payload<P>> {
-        let read = Payload::<P>::decode(frame, &self.limits);
+        let read = Payload::decode(frame, &self.limits);
         let (asked, wanted) = match &read {
             Ok(payload) => (questions(payload), answer(payload, |_| false)),
             Err(fault) => (&[][..], Received::Codec(*fault)),
@@ -126,7 +126,7 @@ impl<P: Pair> Informed<P> {
             bits: vec![false; usize::from(PEERS)],
         };
         let told = self.node.directory().infos(&nothing, NOW);
-        assert_eq!(told, Ok(Some(shared::<P>(&nothing))));
+        assert_eq!(told, Ok(Some(shared(&nothing))));
     }
 }
 
@@ -168,7 +168,7 @@ fn new_node<P: Pair>(payload: PayloadConfig) -> Node<P> {
         peer_gossip_max_count: MOST_INFOS,
         ..setup(OWN)
     };
-    Node::<P>::new(&setup).expect(MEMORY)
+    Node::new(&setup).expect(MEMORY)
 }
 
 // Tracks these peers, and connects those.
@@ -178,7 +178,7 @@ fn meet<P: Pair>(
     connected: impl IntoIterator<Item = P::Key>,
 ) -> Vec<Reservation<P>> {
     let directory = node.directory_mut();
-    let peers = TrackedPeers::<P>::from(OrderedSet::<P>::from_iter_dedup(peers));
+    let peers = TrackedPeers::from(OrderedSet::from_iter_dedup(peers));
     let _ = directory.track(INDEX, &peers).expect(MEMORY);
     let mut held = Vec::new();
     for peer in connected {
@@ -255,6 +255,6 @@ fn shared<P: Pair>(bits: &BitVec) -> Vec<Info<P>> {
         .filter(|number| !bits.bits[usize::from(*number) - 1]);
     let timestamp = |number| if number == OWN { 0 } else { 7 };
     unknown
-        .map(|number| info::<P>(number, timestamp(number)))
+        .map(|number| info(number, timestamp(number)))
         .collect()
 }

@@ -99,7 +99,7 @@ fn refuse_each<P: Pair, A: Clone, T: Debug + PartialEq>(
 // Thirty peers, whose keys are longer than the initial buffer for results.
 fn many<P: Pair>() -> State<P> {
     let numbers: Vec<u16> = (10..40).collect();
-    retaining::<P>(2)
+    retaining(2)
         .tracks(0, &numbers, &[1, 2])
         .tracks(1, &[1, 2], &numbers)
 }
@@ -111,7 +111,7 @@ fn bootstrappers<P: Pair>() -> Vec<(P::Key, Ingress)> {
 
 fn a_directory_is_made_or_refused<P: Pair>() {
     let _alone = alone();
-    let mut setup = setup::<P>(9);
+    let mut setup = setup(9);
     setup.bootstrappers = bootstrappers::<P>();
     // More directories than lived at a time before. Each further one has a new slot for its dropped
     // reservations, and the list of slots, with capacity for 64, has to grow.
@@ -119,7 +119,7 @@ fn a_directory_is_made_or_refused<P: Pair>() {
     let mut places = 1..;
     let made = places.find_map(|place| {
         let (made, refused) = while_refused(Refused::Only(place), || {
-            Directory::<P>::init(&setup.bootstrappers, &setup.myself, config())
+            Directory::init(&setup.bootstrappers, &setup.myself, config())
         });
         if refused == 0 {
             return Some((place, made.unwrap().tracked()));
@@ -142,13 +142,13 @@ fn sets_are_taken_or_refused<P: Pair>() {
         state.directory_mut().track(index, &peers)
     };
     // The keys, primary and secondary. No peer must be disconnected.
-    refuse_each::<P, _, _>(2, empty, (0, peers::<P>(&[1, 2], &[3])), take);
+    refuse_each::<P, _, _>(2, empty, (0, peers(&[1, 2], &[3])), take);
     // There is capacity for the keys. The list of peers that must be disconnected has at most those
     // that are held.
-    refuse_each::<P, _, _>(1, known, (1, peers::<P>(&[1, 7], &[11])), take);
+    refuse_each::<P, _, _>(1, known, (1, peers(&[1, 7], &[11])), take);
     // No peer is held. The buffer for the keys of all thirty, as many as the library might return.
-    let thirty = || empty::<P>().tracks(0, &(10..40).collect::<Vec<u16>>(), &[]);
-    refuse_each::<P, _, _>(1, thirty, (1, peers::<P>(&[1], &[])), take);
+    let thirty = || empty().tracks(0, &(10..40).collect::<Vec<u16>>(), &[]);
+    refuse_each::<P, _, _>(1, thirty, (1, peers(&[1], &[])), take);
 }
 
 fn grants_are_made_or_refused<P: Pair>() {
@@ -168,7 +168,7 @@ fn grants_are_made_or_refused<P: Pair>() {
     // There is capacity for four, and all of them are held.
     let four = || {
         let numbers = [10, 11, 12, 13];
-        let state = empty::<P>().tracks(0, &[10, 11, 12, 13, 14], &[]);
+        let state = empty().tracks(0, &[10, 11, 12, 13, 14], &[]);
         numbers.into_iter().fold(state, State::listened)
     };
     refuse_each::<P, _, _>(1, four, 14, |state, number| state.listen(number, NOW));
@@ -208,15 +208,11 @@ fn there_is_room_for_as_many_as_are_held<P: Pair>() {
 
 fn infos_are_offered_or_refused<P: Pair>() {
     let _alone = alone();
-    let infos = vec![
-        info::<P>(3, 2000),
-        named_info::<P>(5, 2000, "c.d"),
-        info::<P>(1, 2000),
-    ];
+    let infos = vec![info(3, 2000), named_info(5, 2000, "c.d"), info(1, 2000)];
     // The encoding of all infos.
     refuse_each::<P, _, _>(
         1,
-        || introduced::<P>().tracks(1, &[1, 3, 5], &[]),
+        || introduced().tracks(1, &[1, 3, 5], &[]),
         infos,
         |state, infos: Vec<Info<P>>| state.directory_mut().update_peers(&infos),
     );
@@ -258,8 +254,8 @@ fn questions_are_answered_or_refused<P: Pair>() {
 
 fn infos_are_judged_or_memory_is_refused<P: Pair>() {
     let _alone = alone();
-    let infos = [info::<P>(1, 0), named_info::<P>(2, 0, "a.b")];
-    let made = || Info::<P>::verifier(key::<P>(9), 2, Duration::ZERO, NAMESPACE);
+    let infos = [info::<P>(1, 0), named_info(2, 0, "a.b")];
+    let made = || Info::verifier(key::<P>(9), 2, Duration::ZERO, NAMESPACE);
     // Whether the creation fails. If not, the verifier fails once with an allocation, and then
     // succeeds.
     let is_refused = |plan| {
@@ -295,7 +291,7 @@ fn frames_are_taken_or_refused<P: Pair>() {
     let take = |state: &mut State<P>, frame: Vec<u8>| state.receive(&frame, NOW);
     let greeting = Payload::Greeting(named_info::<P>(5, 2000, "c.d")).encode();
     refuse_each::<P, _, _>(1, new, greeting, take);
-    let infos = vec![info::<P>(3, 2000), info::<P>(5, 2000)];
+    let infos = vec![info::<P>(3, 2000), info(5, 2000)];
     refuse_each::<P, _, _>(1, known, Payload::Peers(infos.clone()).encode(), take);
     let bits = BitVec {
         index: 0,
@@ -362,7 +358,7 @@ fn buffers_are_given_back_after_a_large_set<P: Pair>() {
     const KEPT: isize = 64 << 10;
     let numbers: Vec<u16> = (1..=4000).collect();
     let set = peers::<P>(&numbers, &[]);
-    let mut state = empty::<P>();
+    let mut state = empty();
     let before = held();
     let taken = state.directory_mut().track(0, &set.clone()).unwrap();
     assert!(taken.accepted().is_some());

@@ -22,7 +22,7 @@ pub fn questions<P: Pair>() -> Vec<Case<P>> {
                 let nobody = bit_vec(0, &[false; 4]);
                 said(state.directory().infos(&nobody, seconds(100)))
             },
-            answer: || text(Some([info::<P>(1, 1000), named_info::<P>(2, 1000, "a.b")])),
+            answer: || text(Some([info::<P>(1, 1000), named_info(2, 1000, "a.b")])),
             requests: 5,
             // Space for four infos (576), the name, and the bits.
             bytes: 592 + 4 * longer_info::<P>(),

@@ -36,10 +36,7 @@ fn follows<P: Pair>(state: &mut State<P>) {
     const FIRST: &[bool] = &[false, true, false];
     const SECOND: &[bool] = &[true, false];
     connects(state, 100, &[FIRST, SECOND], &[&[false; 3], &[false; 2]]);
-    let taken = state
-        .directory_mut()
-        .track(2, &peers::<P>(&[2], &[]))
-        .unwrap();
+    let taken = state.directory_mut().track(2, &peers(&[2], &[])).unwrap();
     assert!(taken.accepted().is_some());
     connects(
         state,
@@ -56,7 +53,7 @@ fn is_refused<P: Pair>(plan: Refused) -> bool {
         &[1, 2, 3, 10, 11, 12, 13, 14, 15, 16, 17, 18, 19, 20, 21, 22],
         &[],
     );
-    let mut state = two_sets::<P>();
+    let mut state = two_sets();
     let track = || state.directory_mut().track(2, &refused);
     let (answer, asked) = while_refused(plan, track);
     if asked.refused == 0 {

@@ -29,8 +29,8 @@ const FEW: usize = 4_096;
 
 // A node with so many primary peers, from 10 on.
 fn many<P: Pair>() -> State<P> {
-    let mut state = empty::<P>();
-    let peers = OrderedSet::<P>::from_iter_dedup((10..10 + ROUNDS).map(key::<P>)).into();
+    let mut state = empty();
+    let peers = OrderedSet::from_iter_dedup((10..10 + ROUNDS).map(key::<P>)).into();
     let _ = state.directory_mut().track(0, &peers).unwrap();
     state
 }
@@ -113,7 +113,7 @@ fn blocks_that_are_renewed_keep_no_ends<P: Pair>() {
 
 // The memory that a node holds for reservations is freed with them.
 fn a_node_gives_back_what_reservations_took<P: Pair>() {
-    let mut state = many::<P>();
+    let mut state = many();
     cycles(&mut state, 10);
     let before = held();
     let directory = state.directory_mut();
@@ -139,9 +139,9 @@ fn frames<P: Pair>() -> Vec<Vec<u8>> {
         host: Hostname::new("a.b").unwrap(),
         port: 8002,
     };
-    let infos = [info::<P>(1, 100_000), named.clone()];
+    let infos = [info(1, 100_000), named.clone()];
     let spelled = [
-        Payload::Greeting(info::<P>(1, 1000)),
+        Payload::Greeting(info(1, 1000)),
         Payload::Greeting(named),
         Payload::Peers(Vec::new()),
         Payload::Peers(infos[..1].to_vec()),
@@ -155,7 +155,7 @@ fn frames<P: Pair>() -> Vec<Vec<u8>> {
         b"\0\x01\x05hello",
     ];
     let plain = plain.into_iter().map(<[u8]>::to_vec);
-    let spelled = spelled.iter().map(Payload::<P>::encode);
+    let spelled = spelled.iter().map(Payload::encode);
     plain.chain(spelled).collect()
 }
 
@@ -209,7 +209,7 @@ fn a_short_frame_takes_little_memory<P: Pair>() {
     setup.payload.max_peers = u32::MAX as usize;
     setup.payload.max_data_length = u32::MAX as usize;
     setup.peer_gossip_max_count = u32::MAX as usize;
-    let mut node = Node::<P>::new(&setup).unwrap();
+    let mut node = Node::new(&setup).unwrap();
     let mut tried = 0;
     for frame in [frames::<P>(), hostile_frames::<P>()].iter().flatten() {
         for frame in with_changes(frame) {

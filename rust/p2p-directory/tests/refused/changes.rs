@@ -29,12 +29,12 @@ fn tracked<P: Pair>(
     primary: &[u16],
     secondary: &[u16],
 ) -> Result<String, OutOfMemory> {
-    let peers = peers::<P>(primary, secondary);
+    let peers = peers(primary, secondary);
     said(state.directory_mut().track(index, &peers))
 }
 
 fn nobody<P: Pair>() -> String {
-    text(Tracked::<P>::Accepted(set::<P>(&[])))
+    text(Tracked::<P>::Accepted(set(&[])))
 }
 
 fn block<P: Pair>(state: &mut State<P>, number: u16, now: u64) -> Result<String, OutOfMemory> {
@@ -51,7 +51,7 @@ pub fn changes<P: Pair>() -> Vec<Case<P>> {
         Case {
             name: "init of nobody",
             prepared: State::nothing,
-            call: |state| said(state.make(setup::<P>(9))),
+            call: |state| said(state.make(setup(9))),
             answer: || text(()),
             requests: 6,
             // A node of records (3,968), the namespace, the encoding of the local info and its control
@@ -62,7 +62,7 @@ pub fn changes<P: Pair>() -> Vec<Case<P>> {
             name: "init with bootstrappers",
             prepared: State::nothing,
             call: |state| {
-                let mut setup = setup::<P>(9);
+                let mut setup = setup(9);
                 setup.bootstrappers = bootstrappers::<P>(17);
                 said(state.make(setup))
             },
@@ -86,7 +86,7 @@ pub fn changes<P: Pair>() -> Vec<Case<P>> {
             name: "track a set for which another goes",
             prepared: known,
             call: |state| tracked(state, 1, &[1, 7], &[11]),
-            answer: || text(Tracked::<P>::Accepted(set::<P>(&[2, 3]))),
+            answer: || text(Tracked::<P>::Accepted(set(&[2, 3]))),
             requests: 7,
             // The lists of keys (192), the list of peers that must be disconnected (160), their
             // positions before (32), the positions of five peers (240), bits.
@@ -114,11 +114,7 @@ pub fn changes<P: Pair>() -> Vec<Case<P>> {
         },
         Case {
             name: "track a fourth set, for which the window grows",
-            prepared: || {
-                (0..4).fold(retaining::<P>(8), |state, index| {
-                    state.tracks(index, &[1], &[])
-                })
-            },
+            prepared: || (0..4).fold(retaining(8), |state, index| state.tracks(index, &[1], &[])),
             call: |state| tracked(state, 4, &[1], &[]),
             answer: nobody::<P>,
             requests: 5,
@@ -163,7 +159,7 @@ pub fn changes<P: Pair>() -> Vec<Case<P>> {
         Case {
             name: "listen to a sixteenth",
             prepared: || {
-                (1..16).fold(empty::<P>().tracks(0, &MANY, &[]), |state, number| {
+                (1..16).fold(empty().tracks(0, &MANY, &[]), |state, number| {
                     state.listened(9 + number)
                 })
             },
@@ -253,7 +249,7 @@ pub fn changes<P: Pair>() -> Vec<Case<P>> {
         },
         Case {
             name: "block a sixteenth",
-            prepared: || blocking::<P>(15),
+            prepared: || blocking(15),
             call: |state| block(state, 25, 100),
             answer: || text(true),
             requests: 4,
@@ -279,7 +275,7 @@ pub fn changes<P: Pair>() -> Vec<Case<P>> {
         },
         Case {
             name: "block one whose block is over, where there is no room for another end",
-            prepared: || blocking::<P>(15),
+            prepared: || blocking(15),
             call: |state| block(state, 10, 200),
             answer: || text(true),
             requests: 2,
@@ -290,11 +286,7 @@ pub fn changes<P: Pair>() -> Vec<Case<P>> {
             name: "update_peers at a socket and at a name",
             prepared: known,
             call: |state| {
-                let infos = [
-                    info::<P>(3, 2000),
-                    named_info::<P>(5, 2000, "c.d"),
-                    info::<P>(1, 2000),
-                ];
+                let infos = [info(3, 2000), named_info(5, 2000, "c.d"), info(1, 2000)];
                 said(state.directory_mut().update_peers(&infos))
             },
             answer: || text(()),

@@ -26,14 +26,14 @@ fn frame<P: Pair>(state: &mut State<P>, frame: &[u8]) -> Result<String, OutOfMem
 // An info whose signature is invalid.
 fn forged<P: Pair>(number: u16) -> Info<P> {
     let ingress = info::<P>(number, 0).ingress;
-    Info::<P>::sign(key::<P>(number), NAMESPACE, ingress, 2000, |_, _| {
+    Info::sign(key::<P>(number), NAMESPACE, ingress, 2000, |_, _| {
         P::Signature::of_bytes(&vec![7; P::SIGNATURE_SIZE]).expect("bytes")
     })
 }
 
 // A node that accepts one info at a time.
 fn one_at_a_time<P: Pair>() -> State<P> {
-    let mut setup = setup::<P>(9);
+    let mut setup = setup(9);
     setup.peer_gossip_max_count = 1;
     State::of(setup).tracks(0, &[1, 2], &[])
 }
@@ -51,7 +51,7 @@ pub fn frames<P: Pair>() -> Vec<Case<P>> {
         Case {
             name: "a greeting from a name",
             prepared: new,
-            call: |state| greeting(state, named_info::<P>(2, 1000, "a.b"), 100),
+            call: |state| greeting(state, named_info(2, 1000, "a.b"), 100),
             answer: || text(Received::<P>::Greeted(key::<P>(2))),
             requests: 5,
             // A list of one info (144), and the name; before that the copy of the frame.
@@ -60,7 +60,7 @@ pub fn frames<P: Pair>() -> Vec<Case<P>> {
         Case {
             name: "a greeting from a socket",
             prepared: new,
-            call: |state| greeting(state, info::<P>(1, 1000), 100),
+            call: |state| greeting(state, info(1, 1000), 100),
             answer: || text(Received::<P>::Greeted(key::<P>(1))),
             requests: 4,
             // A list of one info (144), and the verification result; before that the copy of the frame.
@@ -69,7 +69,7 @@ pub fn frames<P: Pair>() -> Vec<Case<P>> {
         Case {
             name: "a greeting of the own key",
             prepared: new,
-            call: |state| greeting(state, info::<P>(9, 1000), 100),
+            call: |state| greeting(state, info(9, 1000), 100),
             answer: || invalid::<P>(Error::ReceivedSelf),
             requests: 3,
             // The copy of the frame, with its control block.
@@ -78,7 +78,7 @@ pub fn frames<P: Pair>() -> Vec<Case<P>> {
         Case {
             name: "a greeting from the future",
             prepared: new,
-            call: |state| greeting(state, info::<P>(1, 130_001), 100),
+            call: |state| greeting(state, info(1, 130_001), 100),
             answer: || invalid::<P>(Error::SynchronyBound),
             requests: 3,
             // The copy of the frame, with its control block.
@@ -87,7 +87,7 @@ pub fn frames<P: Pair>() -> Vec<Case<P>> {
         Case {
             name: "a greeting whose signature isn't right",
             prepared: new,
-            call: |state| greeting(state, forged::<P>(1), 100),
+            call: |state| greeting(state, forged(1), 100),
             answer: || invalid::<P>(Error::InvalidSignature),
             requests: 3,
             // The copy of the frame, with its control block.
@@ -126,7 +126,7 @@ pub fn frames<P: Pair>() -> Vec<Case<P>> {
         Case {
             name: "infos, which are applied",
             prepared: known,
-            call: |state| infos(state, &[info::<P>(1, 2000), info::<P>(3, 2000)], 100),
+            call: |state| infos(state, &[info(1, 2000), info(3, 2000)], 100),
             answer: || text(Received::<P>::Applied(2)),
             requests: 4,
             // A list of two infos (288), the copy of the frame (214), its control block, the
@@ -137,7 +137,7 @@ pub fn frames<P: Pair>() -> Vec<Case<P>> {
             name: "infos, which are applied in two steps",
             prepared: known,
             call: |state| {
-                let payload = Payload::Peers(vec![info::<P>(1, 2000), info::<P>(3, 2000)]);
+                let payload = Payload::Peers(vec![info(1, 2000), info(3, 2000)]);
                 said(state.receive_judged(&payload, 100, &[true; 2]))
             },
             answer: || text(Received::<P>::Applied(2)),
@@ -149,10 +149,7 @@ pub fn frames<P: Pair>() -> Vec<Case<P>> {
             name: "infos at names",
             prepared: known,
             call: |state| {
-                let named = [
-                    named_info::<P>(3, 2000, "c.d"),
-                    named_info::<P>(5, 2000, "e.f"),
-                ];
+                let named = [named_info(3, 2000, "c.d"), named_info(5, 2000, "e.f")];
                 infos(state, &named, 100)
             },
             answer: || text(Received::<P>::Applied(2)),
@@ -172,7 +169,7 @@ pub fn frames<P: Pair>() -> Vec<Case<P>> {
         Case {
             name: "infos with one of the own key",
             prepared: known,
-            call: |state| infos(state, &[info::<P>(1, 2000), info::<P>(9, 2000)], 100),
+            call: |state| infos(state, &[info(1, 2000), info(9, 2000)], 100),
             answer: || invalid::<P>(Error::ReceivedSelf),
             requests: 4,
             // As for two infos.
@@ -181,7 +178,7 @@ pub fn frames<P: Pair>() -> Vec<Case<P>> {
         Case {
             name: "infos with one from the future",
             prepared: known,
-            call: |state| infos(state, &[info::<P>(1, 2000), info::<P>(3, 130_001)], 100),
+            call: |state| infos(state, &[info(1, 2000), info(3, 130_001)], 100),
             answer: || invalid::<P>(Error::SynchronyBound),
             requests: 4,
             // As for two infos.
@@ -190,7 +187,7 @@ pub fn frames<P: Pair>() -> Vec<Case<P>> {
         Case {
             name: "infos with one whose signature isn't right",
             prepared: known,
-            call: |state| infos(state, &[info::<P>(1, 2000), forged::<P>(3)], 100),
+            call: |state| infos(state, &[info(1, 2000), forged(3)], 100),
             answer: || invalid::<P>(Error::InvalidSignature),
             requests: 4,
             // As for two infos.
@@ -199,7 +196,7 @@ pub fn frames<P: Pair>() -> Vec<Case<P>> {
         Case {
             name: "infos that are too many",
             prepared: one_at_a_time,
-            call: |state| infos(state, &[info::<P>(1, 2000), info::<P>(2, 2000)], 100),
+            call: |state| infos(state, &[info(1, 2000), info(2, 2000)], 100),
             answer: || invalid::<P>(Error::TooManyPeers(2)),
             requests: 4,
             // As for two infos.
@@ -286,7 +283,7 @@ pub fn frames<P: Pair>() -> Vec<Case<P>> {
             name: "infos of which the second ends too early",
             prepared: known,
             call: |state| {
-                let two = vec![info::<P>(1, 2000), named_info::<P>(3, 2000, "c.d")];
+                let two = vec![info::<P>(1, 2000), named_info(3, 2000, "c.d")];
                 let whole = Payload::Peers(two).encode();
                 frame(state, &whole[..whole.len() - 1])
             },
@@ -315,7 +312,7 @@ pub fn bad_keys<P: Pair>() -> Vec<Case<P>> {
                 name: "infos of which the second has a bad key",
                 prepared: known,
                 call: |state| {
-                    let two = vec![info::<P>(1, 2000), info::<P>(3, 2000)];
+                    let two = vec![info::<P>(1, 2000), info(3, 2000)];
                     frame(state, &spoilt(Payload::Peers(two)))
                 },
                 answer: || fault::<P>(CodecError::Invalid(What::Key)),

@@ -21,11 +21,11 @@ pub fn seconds(seconds: u64) -> Moment {
 }
 
 pub fn set<P: Pair>(numbers: &[u16]) -> OrderedSet<P> {
-    OrderedSet::<P>::from_iter_dedup(numbers.iter().map(|number| key::<P>(*number)))
+    OrderedSet::from_iter_dedup(numbers.iter().map(|number| key::<P>(*number)))
 }
 
 pub fn peers<P: Pair>(primary: &[u16], secondary: &[u16]) -> TrackedPeers<P> {
-    TrackedPeers::<P>::new(set::<P>(primary), set::<P>(secondary))
+    TrackedPeers::new(set(primary), set(secondary))
 }
 
 /// The info of a key with a name, and the port 8000 plus the number.
@@ -35,7 +35,7 @@ pub fn named_info<P: Pair>(number: u16, timestamp: u64, name: &str) -> Info<P> {
         port: 8000 + number,
     };
     let key = key::<P>(number);
-    Info::<P>::sign(key, NAMESPACE, ingress, timestamp, |namespace, message| {
+    Info::sign(key, NAMESPACE, ingress, timestamp, |namespace, message| {
         sign::<P>(&key, namespace, message)
     })
 }
@@ -61,12 +61,12 @@ impl<P: Pair> State<P> {
 
     pub fn of(setup: Setup<P>) -> State<P> {
         let mut state = State::nothing();
-        state.node = Some(Node::<P>::new(&setup).expect("memory is ample"));
+        state.node = Some(Node::new(&setup).expect("memory is ample"));
         state
     }
 
     pub fn make(&mut self, setup: Setup<P>) -> Result<(), OutOfMemory> {
-        match Node::<P>::new(&setup) {
+        match Node::new(&setup) {
             Ok(node) => {
                 self.node = Some(node);
                 Ok(())
@@ -176,7 +176,7 @@ impl<P: Pair> State<P> {
     pub fn tracks(mut self, index: u64, primary: &[u16], secondary: &[u16]) -> State<P> {
         let taken = self
             .directory_mut()
-            .track(index, &peers::<P>(primary, secondary))
+            .track(index, &peers(primary, secondary))
             .unwrap();
         assert!(taken.accepted().is_some(), "set {index}");
         self
@@ -222,22 +222,22 @@ pub fn empty<P: Pair>() -> State<P> {
 
 /// A node that retains so many sets.
 pub fn retaining<P: Pair>(max_sets: usize) -> State<P> {
-    let mut setup = setup::<P>(9);
+    let mut setup = setup(9);
     setup.cfg.max_sets = NonZeroUsize::new(max_sets).expect("it isn't 0");
     State::of(setup)
 }
 
 /// A node with a set of unknown peers.
 pub fn new<P: Pair>() -> State<P> {
-    empty::<P>().tracks(0, &[1, 2, 5], &[])
+    empty().tracks(0, &[1, 2, 5], &[])
 }
 
 /// 1 and 2 are connected, 3 is reserved, 5 was released, 4 and 6 are blocked, and 2 has a name.
 pub fn known<P: Pair>() -> State<P> {
-    let mut state = empty::<P>()
+    let mut state = empty()
         .tracks(0, &[1, 2, 3, 5], &[4])
-        .greeted(named_info::<P>(2, 1000, "a.b"))
-        .told(&[info::<P>(1, 1000), info::<P>(5, 1000)])
+        .greeted(named_info(2, 1000, "a.b"))
+        .told(&[info(1, 1000), info(5, 1000)])
         .connected(1)
         .connected(2)
         .listened(3)
@@ -250,32 +250,32 @@ pub fn known<P: Pair>() -> State<P> {
 
 /// A set whose first peer is known with a socket, and whose second with a name.
 pub fn introduced<P: Pair>() -> State<P> {
-    empty::<P>()
+    empty()
         .tracks(0, &[1, 2], &[])
-        .told(&[info::<P>(1, 1000)])
-        .greeted(named_info::<P>(2, 1000, "a.b"))
+        .told(&[info(1, 1000)])
+        .greeted(named_info(2, 1000, "a.b"))
 }
 
 /// The first is dialled, with a socket, and the second not yet.
 pub fn dialling<P: Pair>() -> State<P> {
-    let mut state = introduced::<P>();
+    let mut state = introduced();
     assert_eq!(state.dial(1, seconds(100)), Ok(true));
     state
 }
 
 /// So many peers are blocked at 100 seconds, from 10 on.
 pub fn blocking<P: Pair>(count: u16) -> State<P> {
-    (10..10 + count).fold(empty::<P>(), |state, number| state.blocked(number, 100))
+    (10..10 + count).fold(empty(), |state, number| state.blocked(number, 100))
 }
 
 /// Two of at most three sets. Peer 2 is primary in both, at another position in each. The info of a
 /// peer that isn't connected is wanted.
 pub fn two_sets<P: Pair>() -> State<P> {
-    let mut setup = setup::<P>(9);
+    let mut setup = setup(9);
     setup.cfg.max_sets = NonZeroUsize::new(3).expect("it isn't 0");
     setup.cfg.dial_fail_limit = 0;
     State::of(setup)
         .tracks(0, &[1, 2, 3], &[])
         .tracks(1, &[2, 3], &[1])
-        .told(&[info::<P>(2, 1000)])
+        .told(&[info(2, 1000)])
 }

@@ -47,8 +47,8 @@ const NUMBERS: [u64; 9] = [0, 127, 128, 253, 300, 1000, 12_345, 100_000, u64::MA
 
 /// All of them, without duplicates.
 pub fn frames<P: Pair>() -> Vec<Vec<u8>> {
-    let payloads = [kinds::<P>(), numbered::<P>(), at_limits::<P>()].concat();
-    let spelled = payloads.iter().map(Payload::<P>::encode);
+    let payloads = [kinds::<P>(), numbered::<P>(), at_limits()].concat();
+    let spelled = payloads.iter().map(Payload::encode);
     let raw = VECTORS.map(bytes).into_iter().chain(LABELS.map(named::<P>));
     let mut frames: Vec<Vec<u8>> = spelled.chain(raw).chain(of_scripts::<P>()).collect();
     frames.sort();
@@ -62,7 +62,7 @@ fn bytes(digits: &str) -> Vec<u8> {
 
 fn info_at<P: Pair>(number: u16, ingress: Ingress, timestamp: u64) -> Info<P> {
     let key = key::<P>(number);
-    Info::<P>::sign(key, NAMESPACE, ingress, timestamp, |namespace, message| {
+    Info::sign(key, NAMESPACE, ingress, timestamp, |namespace, message| {
         sign::<P>(&key, namespace, message)
     })
 }
