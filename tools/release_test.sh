@@ -121,14 +121,6 @@ python_host() {
     )
 }
 
-# Whether a program has calls of the first pair of sizes, and none of another.
-has_one_pair() {
-    nm "$folder/$1" > "$folder/symbols"
-    grep -q ' T p2p_session_track$' "$folder/symbols"
-    ! grep -e ' p2p_session_[0-9]' -e 'keys[0-9]*_[0-9]*::' "$folder/symbols" || exit 1
-    echo "no code of another pair of sizes: $1"
-}
-
 # By pkg-config and by CMake, from a prefix that was moved.
 installed() {
     "$folder/release/install.sh" "$folder/before" > /dev/null
@@ -137,7 +129,6 @@ installed() {
     # shellcheck disable=SC2046 # a list of words
     cc examples/session.c $(pkg-config --cflags --libs p2p_session) -o "$folder/by_pkg_config"
     runs by_pkg_config
-    has_one_pair by_pkg_config
     mkdir "$folder/project"
     cp examples/session.c "$folder/project/"
     cat > "$folder/project/CMakeLists.txt" << 'END'
@@ -151,7 +142,6 @@ END
     cmake --build "$folder/project/build" >> "$folder/told"
     cp "$folder/project/build/by_cmake" "$folder/"
     runs by_cmake
-    has_one_pair by_cmake
     (
         cd "$folder/release/rust"
         alone PKG_CONFIG_PATH="$PKG_CONFIG_PATH" P2P_SESSION_PKG_CONFIG=1 CARGO_TARGET_DIR="$folder/by_pkg" \
