@@ -42,8 +42,13 @@ uint64_t p2p_session_48_96_call(struct p2p_session_48_96 *at, uint64_t number,
     const uint8_t *second, size_t second_length, const uint8_t *third, size_t third_length,
     uint8_t *out, size_t out_length);
 
-// The same, with a byte of its own in the place of a slice that has none. The functions below make
-// their calls by it.
+// The same with peer as first, and with nothing in second, third and out. Its arguments are passed
+// in registers, which makes the calls of a peer shorter. No pointer may be null.
+uint64_t p2p_session_48_96_call_peer(struct p2p_session_48_96 *at, uint64_t number,
+    const uint64_t *numbers, size_t numbers_length, const uint8_t *peer, size_t peer_length);
+
+// The same, each with a byte of its own in the place of a slice that has none. The functions below
+// make their calls by these.
 static inline uint64_t p2p_session_48_96_request(const struct p2p_session_48_96 *at,
     uint64_t number, const uint64_t *numbers, size_t numbers_length,
     const uint8_t *first, size_t first_length, const uint8_t *second, size_t second_length,
@@ -60,6 +65,17 @@ static inline uint64_t p2p_session_48_96_request(const struct p2p_session_48_96 
         out_length == 0 ? &none : out, out_length);
 }
 
+static inline uint64_t p2p_session_48_96_request_of_peer(const struct p2p_session_48_96 *at,
+    uint64_t number, const uint64_t *numbers, size_t numbers_length,
+    const uint8_t *peer, size_t peer_length)
+{
+    uint64_t no_number = 0;
+    uint8_t none = 0;
+    return p2p_session_48_96_call_peer((struct p2p_session_48_96 *)(uintptr_t)at, number,
+        numbers_length == 0 ? &no_number : numbers, numbers_length,
+        peer_length == 0 ? &none : peer, peer_length);
+}
+
 // Creates the node of the session, once. Returns 1. BAD_SETTING: there is a node already, max_sets
 // is 0 or UINT64_MAX, or max_bit_vec is above UINT32_MAX. bootstrappers: for each one its key and
 // then its encoded ingress. myself: the encoded local info.
@@ -72,7 +88,7 @@ static inline uint64_t p2p_session_48_96_init(struct p2p_session_48_96 *at, bool
     const uint8_t *bootstrappers, size_t bootstrappers_length,
     const uint8_t *myself, size_t myself_length)
 {
-    (void)p2p_session_interface_635a3664c34196d3();
+    (void)p2p_session_interface_cb7ab9f559abf783();
     const uint64_t numbers[] = {allow_private_ips, allow_dns, max_sets, dial_fail_limit,
         cooldown_seconds, cooldown_nanos, block_seconds, block_nanos, max_bit_vec, max_peers,
         max_data_length, peer_gossip_max_count, bound_seconds, bound_nanos};
@@ -107,8 +123,7 @@ static inline uint64_t p2p_session_48_96_dial(struct p2p_session_48_96 *at,
     uint64_t draw_seconds, uint32_t draw_nanos)
 {
     const uint64_t numbers[] = {seconds, nanos, draw_seconds, draw_nanos};
-    return p2p_session_48_96_request(at, 4, numbers, 4, peer, peer_length, NULL, 0, NULL, 0,
-        NULL, 0);
+    return p2p_session_48_96_request_of_peer(at, 4, numbers, 4, peer, peer_length);
 }
 
 // Reserves an inbound peer. Returns 1 if it is granted, else 0. The draw is a random duration
@@ -118,8 +133,7 @@ static inline uint64_t p2p_session_48_96_listen(struct p2p_session_48_96 *at,
     uint64_t draw_seconds, uint32_t draw_nanos)
 {
     const uint64_t numbers[] = {seconds, nanos, draw_seconds, draw_nanos};
-    return p2p_session_48_96_request(at, 5, numbers, 4, peer, peer_length, NULL, 0, NULL, 0,
-        NULL, 0);
+    return p2p_session_48_96_request_of_peer(at, 5, numbers, 4, peer, peer_length);
 }
 
 // Describes the reservation that is held of a peer: byte 0 if it is inbound, or byte 1 and the
@@ -136,15 +150,14 @@ static inline uint64_t p2p_session_48_96_connect(struct p2p_session_48_96 *at,
     const uint8_t *peer, size_t peer_length, bool dialer)
 {
     const uint64_t numbers[] = {dialer};
-    return p2p_session_48_96_request(at, 7, numbers, 1, peer, peer_length, NULL, 0, NULL, 0,
-        NULL, 0);
+    return p2p_session_48_96_request_of_peer(at, 7, numbers, 1, peer, peer_length);
 }
 
 // Releases the reservation that is held of a peer. Returns 1, or NOT_HELD.
 static inline uint64_t p2p_session_48_96_release(struct p2p_session_48_96 *at,
     const uint8_t *peer, size_t peer_length)
 {
-    return p2p_session_48_96_request(at, 8, NULL, 0, peer, peer_length, NULL, 0, NULL, 0, NULL, 0);
+    return p2p_session_48_96_request_of_peer(at, 8, NULL, 0, peer, peer_length);
 }
 
 // Offers infos, an encoded list, to the records of their peers. Returns 1. The host must have made
@@ -161,8 +174,7 @@ static inline uint64_t p2p_session_48_96_block(struct p2p_session_48_96 *at,
     const uint8_t *peer, size_t peer_length, uint64_t seconds, uint32_t nanos)
 {
     const uint64_t numbers[] = {seconds, nanos};
-    return p2p_session_48_96_request(at, 10, numbers, 2, peer, peer_length, NULL, 0, NULL, 0,
-        NULL, 0);
+    return p2p_session_48_96_request_of_peer(at, 10, numbers, 2, peer, peer_length);
 }
 
 // Ends the blocks that hold until this time or an earlier one. Returns 1 if there was one, else 0.
@@ -201,7 +213,7 @@ static inline uint64_t p2p_session_48_96_blocked_peers(const struct p2p_session_
 static inline uint64_t p2p_session_48_96_status(const struct p2p_session_48_96 *at,
     const uint8_t *peer, size_t peer_length)
 {
-    return p2p_session_48_96_request(at, 15, NULL, 0, peer, peer_length, NULL, 0, NULL, 0, NULL, 0);
+    return p2p_session_48_96_request_of_peer(at, 15, NULL, 0, peer, peer_length);
 }
 
 // The set with an index, or NONE: the number of primary peers in 8 bytes, their keys, and the keys
@@ -269,8 +281,7 @@ static inline uint64_t p2p_session_48_96_eligible(const struct p2p_session_48_96
     const uint8_t *peer, size_t peer_length, uint64_t seconds, uint32_t nanos)
 {
     const uint64_t numbers[] = {seconds, nanos};
-    return p2p_session_48_96_request(at, 23, numbers, 2, peer, peer_length, NULL, 0, NULL, 0,
-        NULL, 0);
+    return p2p_session_48_96_request_of_peer(at, 23, numbers, 2, peer, peer_length);
 }
 
 // Whether a connection of a peer may be accepted: 1 or 0.
@@ -278,8 +289,7 @@ static inline uint64_t p2p_session_48_96_acceptable(const struct p2p_session_48_
     const uint8_t *peer, size_t peer_length, uint64_t seconds, uint32_t nanos)
 {
     const uint64_t numbers[] = {seconds, nanos};
-    return p2p_session_48_96_request(at, 24, numbers, 2, peer, peer_length, NULL, 0, NULL, 0,
-        NULL, 0);
+    return p2p_session_48_96_request_of_peer(at, 24, numbers, 2, peer, peer_length);
 }
 
 // Byte 0, or byte 1 and the time at which to ask again, and then the keys of the peers that may be

@@ -1,4 +1,5 @@
-"""Writes the static library, with the proofs of its exports: for each pair of sizes `new`, `size`, `free` and `call`."""
+"""Writes the static library, with the proofs of its exports: for each pair of sizes `new`, `size`, `free`, `call` and
+`call_peer`."""
 import os
 import re
 
@@ -47,7 +48,7 @@ def write_pair(put, table, pair):
                    'less': str(int(pair.key) - 1), 'signature': pair.signature, 'firsts': ' or '.join(pair.firsts),
                    'keysplace': f'{lib}.specs.Keys' if is_first else f'{crate}.specs.Keys{pair.key}_{pair.signature}',
                    'keyplace': lib if is_first else f'crate::{pair.keys}::key'})
-    for export in ('new', 'free', 'call'):
+    for export in ('new', 'free', 'call', 'call_peer'):
         proof = template(f'proofs/X_{export}/Proof.antt.in')
         put(f'crates/{crate}/proofs/{pair.keys}/{pair.prefix}_{export}/Proof.antt', fill(proof))
     text = with_parts(template('pair.rt.in'), {'MODULES': '' if is_first else '\npub mod key;\n'})

@@ -3,7 +3,7 @@ module of each pair but the first."""
 import re
 import textwrap
 
-from table import CALL, wrapped
+from table import CALL, CALL_PEER, wrapped
 
 WRITTEN = 'Written by tools/exports.sh from tools/exports/session.table.'
 
@@ -52,6 +52,7 @@ impl Exported for Keys{key}_{signature} {{
         new: {prefix}_new,
         free: {prefix}_free,
         call: {prefix}_call,
+        call_peer: {prefix}_call_peer,
     }};
 }}
 
@@ -64,6 +65,9 @@ unsafe extern "C" {{
 
     fn {prefix}_call(
 {call}    ) -> u64;
+
+    fn {prefix}_call_peer(
+{call_peer}    ) -> u64;
 }}
 """
 
@@ -150,8 +154,8 @@ def function_text(prefix, function):
 def pair_text(pair):
     """The sizes, the session and the exports of one pair."""
     firsts = FIRSTS.format(count=len(pair.firsts), firsts=', '.join(pair.firsts)) if pair.firsts else ''
-    taken = declared([('at', '*mut Handle'), *(one.split(': ') for one in CALL)])
-    return PAIR.format(key=pair.key, signature=pair.signature, prefix=pair.prefix, firsts=firsts, call=taken)
+    call, call_peer = (declared([('at', '*mut Handle'), *(one.split(': ') for one in taken)]) for taken in (CALL, CALL_PEER))
+    return PAIR.format(key=pair.key, signature=pair.signature, prefix=pair.prefix, firsts=firsts, call=call, call_peer=call_peer)
 
 
 def indented(text):

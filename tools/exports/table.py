@@ -25,6 +25,8 @@ NUMBERS = ('u64', 'u32', 'bool')
 
 # What every call takes, by its number.
 CALL = ['number: u64', 'numbers: &[u64]', 'first: &[u8]', 'second: &[u8]', 'third: &[u8]', 'out: &mut [u8]']
+# What a call of a peer takes, in registers.
+CALL_PEER = ['number: u64', 'numbers: &[u64]', 'peer: &[u8]']
 
 
 @dataclasses.dataclass
@@ -46,6 +48,10 @@ class Call:
     def out(self):
         """What the answer is written to, or None."""
         return next((name for name, type_ in self.params if type_ == '&mut [u8]'), None)
+
+    def is_of_peer(self):
+        """Whether it takes a peer, no other bytes, and writes no answer. Then it is made by call_peer."""
+        return self.slices() == ['peer'] and not self.out()
 
 
 @dataclasses.dataclass
@@ -172,7 +178,7 @@ def interface_of(names, pairs, refusals, calls, functions):
     """A name that another interface hasn't: a hash of what the exports take, of the calls with their numbers, of the
     refusals in their order, of the pairs of sizes, and of the number of the forms of answers."""
     written = lambda params: ', '.join(f'{name}: {type_}' for name, type_ in params)
-    said = [f"call({', '.join(CALL)}) -> u64"]
+    said = [f"call({', '.join(CALL)}) -> u64", f"call_peer({', '.join(CALL_PEER)}) -> u64"]
     said += [f'{call.number} {call.name}({written(call.params)})' for call in calls]
     said += [f'fn {function.name}({written(function.params)})' for function in functions]
     said += [names['prefix'], *refusals, *(' '.join([pair.key, pair.signature, *pair.firsts]) for pair in pairs), f"forms {names['forms']}"]

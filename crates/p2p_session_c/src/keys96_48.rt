@@ -1,7 +1,7 @@
 //! A session with keys of 96 bytes and signatures of 48, and its exports. Written by
 //! tools/exports.sh from tools/exports/session.table, with the proofs.
 
-ghost use Rattle.std.specs.Prelude.{◌≡◌};
+ghost use Rattle.std.specs.Prelude.{◌≡◌, []};
 ghost use Rattle.std.specs.Mem.{type_size};
 ghost use types.Logic.{sem};
 ghost use Rattle.std.specs.Ptr.{points_to, uninit_at};
@@ -57,6 +57,15 @@ impl Session {
         self.session
             .call(alloc, number, numbers, first, second, third, out)
     }
+
+    /// The same with bytes in the first place alone, and with nothing to write to.
+    #[inline(always)]
+    pub fn call_peer(&mut self, alloc: Global, number: u64, numbers: &[u64], peer: &[u8]) -> u64
+        ensures { ServesCall keys96_48 number numbers.now peer.now [] [] [] [] self.old.session
+            self.new.session result }
+    {
+        self.session.call_peer(alloc, number, numbers, peer)
+    }
 }
 
 /// How many bytes of memory a session has to have. They begin at a multiple of 16.
@@ -106,6 +115,29 @@ pub unsafe extern "C" fn p2p_session_96_48_call(
 {
     let value = unsafe { &mut *(at as *mut Session) };
     value.call(alloc, number, numbers, first, second, third, out)
+}
+
+/// Makes the call of this number with `peer` as its first bytes, no others, and no answer that is
+/// written. What it takes is passed in registers, so the calls of a peer are made by it. BAD_CALL if
+/// this is no call.
+///
+/// # Safety
+///
+/// The pointer leads to a session, and the host meets the obligations at the head of the crate.
+#[unsafe(no_mangle)]
+pub unsafe extern "C" fn p2p_session_96_48_call_peer(
+    alloc: Global,
+    at: *mut Handle,
+    number: u64,
+    numbers: &[u64],
+    peer: &[u8],
+) -> u64
+    ghost before: { Session }
+    requires* { sem 𝓛 (points_to the_row at before) }
+    ensures* { ∃ₛ (λ (after : Session). sem 𝓛 (points_to the_row at after) ∗ ⌜ ServesCall keys96_48 number numbers.now peer.now [] [] [] [] before.session after.session result ⌝) }
+{
+    let value = unsafe { &mut *(at as *mut Session) };
+    value.call_peer(alloc, number, numbers, peer)
 }
 
 /// Ends the session: all that it holds is freed, and the memory at the pointer is the host's again.

@@ -36,7 +36,7 @@ pub const BAD_CALL: u64 = u64::MAX - 13;
 
 unsafe extern "C" {
     // Only an archive with the same calls, refusals and pairs of sizes has this name.
-    #[link_name = "p2p_session_interface_635a3664c34196d3"]
+    #[link_name = "p2p_session_interface_cb7ab9f559abf783"]
     pub(crate) safe fn interface() -> u64;
 }
 
@@ -85,6 +85,7 @@ impl Exported for Keys32_64 {
         new: p2p_session_new,
         free: p2p_session_free,
         call: p2p_session_call,
+        call_peer: p2p_session_call_peer,
     };
 }
 
@@ -108,6 +109,15 @@ unsafe extern "C" {
         third_length: usize,
         out: *mut u8,
         out_length: usize,
+    ) -> u64;
+
+    fn p2p_session_call_peer(
+        at: *mut Handle,
+        number: u64,
+        numbers: *const u64,
+        numbers_length: usize,
+        peer: *const u8,
+        peer_length: usize,
     ) -> u64;
 }
 
@@ -135,6 +145,7 @@ pub mod keys33_64 {
             new: p2p_session_33_64_new,
             free: p2p_session_33_64_free,
             call: p2p_session_33_64_call,
+            call_peer: p2p_session_33_64_call_peer,
         };
     }
 
@@ -158,6 +169,15 @@ pub mod keys33_64 {
             third_length: usize,
             out: *mut u8,
             out_length: usize,
+        ) -> u64;
+
+        fn p2p_session_33_64_call_peer(
+            at: *mut Handle,
+            number: u64,
+            numbers: *const u64,
+            numbers_length: usize,
+            peer: *const u8,
+            peer_length: usize,
         ) -> u64;
     }
 }
@@ -183,6 +203,7 @@ pub mod keys48_96 {
             new: p2p_session_48_96_new,
             free: p2p_session_48_96_free,
             call: p2p_session_48_96_call,
+            call_peer: p2p_session_48_96_call_peer,
         };
     }
 
@@ -206,6 +227,15 @@ pub mod keys48_96 {
             third_length: usize,
             out: *mut u8,
             out_length: usize,
+        ) -> u64;
+
+        fn p2p_session_48_96_call_peer(
+            at: *mut Handle,
+            number: u64,
+            numbers: *const u64,
+            numbers_length: usize,
+            peer: *const u8,
+            peer_length: usize,
         ) -> u64;
     }
 }
@@ -231,6 +261,7 @@ pub mod keys96_48 {
             new: p2p_session_96_48_new,
             free: p2p_session_96_48_free,
             call: p2p_session_96_48_call,
+            call_peer: p2p_session_96_48_call_peer,
         };
     }
 
@@ -254,6 +285,15 @@ pub mod keys96_48 {
             third_length: usize,
             out: *mut u8,
             out_length: usize,
+        ) -> u64;
+
+        fn p2p_session_96_48_call_peer(
+            at: *mut Handle,
+            number: u64,
+            numbers: *const u64,
+            numbers_length: usize,
+            peer: *const u8,
+            peer_length: usize,
         ) -> u64;
     }
 }

@@ -39,6 +39,14 @@ pub struct Exports {
         out: *mut u8,
         out_length: usize,
     ) -> u64,
+    pub call_peer: unsafe extern "C" fn(
+        at: *mut Handle,
+        number: u64,
+        numbers: *const u64,
+        numbers_length: usize,
+        peer: *const u8,
+        peer_length: usize,
+    ) -> u64,
 }
 
 /// What only `exports.rs` implements: the exports are those of one pair of sizes.
@@ -130,6 +138,21 @@ impl<P: Pair> Caller for Library<P> {
                 third.len(),
                 out.as_mut_ptr(),
                 out.len(),
+            )
+        }
+    }
+
+    #[inline]
+    fn call_peer(&self, number: u64, numbers: &[u64], peer: &[u8]) -> u64 {
+        // SAFETY: as in `call`.
+        unsafe {
+            (P::EXPORTS.call_peer)(
+                self.at,
+                number,
+                numbers.as_ptr(),
+                numbers.len(),
+                peer.as_ptr(),
+                peer.len(),
             )
         }
     }

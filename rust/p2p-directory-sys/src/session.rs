@@ -29,6 +29,13 @@ pub trait Caller {
     /// many numbers, if a bool is neither 0 nor 1, or if there are bytes that it doesn't take.
     /// Nothing changes then.
     fn call(&self, number: u64, numbers: &[u64], bytes: [&[u8]; 3], out: &mut [u8]) -> u64;
+
+    /// The same with `peer` as the first slice, and with nothing in the others. The methods that take
+    /// a peer, and write no answer, make their calls by it. What implements it may make them faster.
+    #[inline]
+    fn call_peer(&self, number: u64, numbers: &[u64], peer: &[u8]) -> u64 {
+        self.call(number, numbers, [peer, &[], &[]], &mut [])
+    }
 }
 
 /// A session: a node, whose calls `C` makes. The methods take the arguments of calls in the forms of
@@ -81,6 +88,23 @@ impl<C: Caller> Session<C> {
     #[inline]
     pub fn call(&self, number: u64, numbers: &[u64], bytes: [&[u8]; 3], out: &mut [u8]) -> u64 {
         self.caller.call(number, numbers, bytes, out)
+    }
+
+    /// Makes the call of any number, as [`Caller::call_peer`] says.
+    ///
+    /// # Examples
+    ///
+    /// ```
+    /// use p2p_directory_sys::{BAD_CALL, Session};
+    ///
+    /// let session = Session::new().ok_or("no memory")?;
+    /// assert_eq!(session.call_peer(15, &[], &[1; 32]), session.status(&[1; 32]));
+    /// assert_eq!(session.call_peer(15, &[1], &[1; 32]), BAD_CALL);
+    /// # Ok::<(), &str>(())
+    /// ```
+    #[inline]
+    pub fn call_peer(&self, number: u64, numbers: &[u64], peer: &[u8]) -> u64 {
+        self.caller.call_peer(number, numbers, peer)
     }
 
     /// Creates the node of the session, once. Returns 1. BAD_SETTING: there is a node already,
@@ -157,12 +181,8 @@ impl<C: Caller> Session<C> {
         draw_seconds: u64,
         draw_nanos: u32,
     ) -> u64 {
-        self.call(
-            4,
-            &[seconds, nanos.into(), draw_seconds, draw_nanos.into()],
-            [peer, &[], &[]],
-            &mut [],
-        )
+        let numbers = [seconds, nanos.into(), draw_seconds, draw_nanos.into()];
+        self.call_peer(4, &numbers, peer)
     }
 
     /// Reserves an inbound peer. Returns 1 if it is granted, else 0. The draw is a random duration
@@ -176,12 +196,8 @@ impl<C: Caller> Session<C> {
         draw_seconds: u64,
         draw_nanos: u32,
     ) -> u64 {
-        self.call(
-            5,
-            &[seconds, nanos.into(), draw_seconds, draw_nanos.into()],
-            [peer, &[], &[]],
-            &mut [],
-        )
+        let numbers = [seconds, nanos.into(), draw_seconds, draw_nanos.into()];
+        self.call_peer(5, &numbers, peer)
     }
 
     /// Describes the reservation that is held of a peer: byte 0 if it is inbound, or byte 1 and the
@@ -194,13 +210,13 @@ impl<C: Caller> Session<C> {
     /// Marks a reserved peer as connected. Returns 1, or NOT_RESERVED.
     #[inline]
     pub fn connect(&self, peer: &[u8], dialer: bool) -> u64 {
-        self.call(7, &[dialer.into()], [peer, &[], &[]], &mut [])
+        self.call_peer(7, &[dialer.into()], peer)
     }
 
     /// Releases the reservation that is held of a peer. Returns 1, or NOT_HELD.
     #[inline]
     pub fn release(&self, peer: &[u8]) -> u64 {
-        self.call(8, &[], [peer, &[], &[]], &mut [])
+        self.call_peer(8, &[], peer)
     }
 
     /// Offers infos, an encoded list, to the records of their peers. Returns 1. The host must have
@@ -213,7 +229,7 @@ impl<C: Caller> Session<C> {
     /// Blocks a peer. Returns 1 if the block takes effect, else 0.
     #[inline]
     pub fn block(&self, peer: &[u8], seconds: u64, nanos: u32) -> u64 {
-        self.call(10, &[seconds, nanos.into()], [peer, &[], &[]], &mut [])
+        self.call_peer(10, &[seconds, nanos.into()], peer)
     }
 
     /// Ends the blocks that hold until this time or an earlier one. Returns 1 if there was one,
@@ -245,7 +261,7 @@ impl<C: Caller> Session<C> {
     /// connected.
     #[inline]
     pub fn status(&self, peer: &[u8]) -> u64 {
-        self.call(15, &[], [peer, &[], &[]], &mut [])
+        self.call_peer(15, &[], peer)
     }
 
     /// The set with an index, or NONE: the number of primary peers in 8 bytes, their keys, and the
@@ -297,13 +313,13 @@ impl<C: Caller> Session<C> {
     /// Whether a peer may be connected: 1 or 0.
     #[inline]
     pub fn eligible(&self, peer: &[u8], seconds: u64, nanos: u32) -> u64 {
-        self.call(23, &[seconds, nanos.into()], [peer, &[], &[]], &mut [])
+        self.call_peer(23, &[seconds, nanos.into()], peer)
     }
 
     /// Whether a connection of a peer may be accepted: 1 or 0.
     #[inline]
     pub fn acceptable(&self, peer: &[u8], seconds: u64, nanos: u32) -> u64 {
-        self.call(24, &[seconds, nanos.into()], [peer, &[], &[]], &mut [])
+        self.call_peer(24, &[seconds, nanos.into()], peer)
     }
 
     /// Byte 0, or byte 1 and the time at which to ask again, and then the keys of the peers that

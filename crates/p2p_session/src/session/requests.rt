@@ -59,6 +59,7 @@ impl<C: PublicKey> Session<C> {
     ///
     /// That of the call. To find it takes a comparison for each call before it, at most.
     #[allow(clippy::too_many_arguments)]
+    #[inline(always)]
     pub fn call(
         &mut self,
         alloc: Global,
@@ -88,6 +89,48 @@ impl<C: PublicKey> Session<C> {
             [_, _, _, _] if second.is_empty() => self.call_with_draw(number, first, numbers),
             _ => Refusal::BadCall.number(),
         }
+    }
+
+    /// Makes the call of this number as [`Session::call`] does, with bytes in its first place alone,
+    /// and with nothing to write to. So it makes each call that takes bytes in one place at most, and
+    /// writes no answer. Its arguments are few enough to be passed in registers.
+    ///
+    /// # Errors
+    ///
+    /// [`Refusal::BadCall`] as [`Session::call`] returns it: before all other refusals, and nothing
+    /// changes then.
+    ///
+    /// # Cost
+    ///
+    /// That of the call. A call of a peer is found by four comparisons at most, any other one as
+    /// [`Session::call`] finds it.
+    #[inline(always)]
+    pub fn call_peer(&mut self, alloc: Global, number: u64, numbers: &[u64], peer: &[u8]) -> u64
+        ensures { ServesCall (scheme C.PublicKey C.Signature.FixedBytes) number numbers.now peer.now
+            [] [] [] [] self.old self.new result }
+    {
+        match (number, numbers) {
+            (8, []) => self.release(peer),
+            (15, []) => self.status(peer),
+            (7, [dialer]) => match bool_of(*dialer) {
+                Some(dialer) => self.connect(peer, dialer),
+                None => Refusal::BadCall.number(),
+            },
+            (10, [seconds, nanos]) => self.block(peer, *seconds, nanos_of(*nanos)),
+            (23, [seconds, nanos]) => self.eligible(peer, *seconds, nanos_of(*nanos)),
+            (24, [seconds, nanos]) => self.acceptable(peer, *seconds, nanos_of(*nanos)),
+            (_, [_, _, _, _]) => self.call_with_draw(number, peer, numbers),
+            _ => self.call_of_any(alloc, number, numbers, peer),
+        }
+    }
+
+    // Any call with bytes in its first place alone. It is out of line, where there is a copy of `call`.
+    #[inline(never)]
+    fn call_of_any(&mut self, alloc: Global, number: u64, numbers: &[u64], first: &[u8]) -> u64
+        ensures { ServesCall (scheme C.PublicKey C.Signature.FixedBytes) number numbers.now first.now
+            [] [] [] [] self.old self.new result }
+    {
+        self.call(alloc, number, numbers, first, &[], &[], &mut [])
     }
 
     // The calls that take nothing.

@@ -55,4 +55,13 @@ impl<P: Pair> Caller for Recorded<P> {
         }
         answer
     }
+
+    #[inline]
+    fn call_peer(&self, number: u64, numbers: &[u64], peer: &[u8]) -> u64 {
+        let answer = self.library.call_peer(number, numbers, peer);
+        if let Some(recorder) = self.recorder.borrow_mut().as_mut() {
+            recorder.call(number, numbers, [peer, &[], &[]], answer, &[]);
+        }
+        answer
+    }
 }

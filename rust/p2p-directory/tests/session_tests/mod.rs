@@ -3,6 +3,7 @@
 
 mod bad_calls;
 mod calls;
+mod calls_of_peers;
 mod frames;
 mod given;
 mod hostile;
