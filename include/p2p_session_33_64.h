@@ -43,8 +43,9 @@ uint64_t p2p_session_33_64_call(struct p2p_session_33_64 *at, uint64_t number,
     const uint8_t *second, size_t second_length, const uint8_t *third, size_t third_length,
     uint8_t *out, size_t out_length);
 
-// The same with peer as first, and with nothing in second, third and out. Its arguments are passed
-// in registers, which makes the calls of a peer shorter. No pointer may be null.
+// The same with peer as first, and with nothing in second, third and out: for the calls that take
+// bytes in one place at most and write nothing. Its arguments are passed in registers, so it takes
+// less time. No pointer may be null.
 uint64_t p2p_session_33_64_call_peer(struct p2p_session_33_64 *at, uint64_t number,
     const uint64_t *numbers, size_t numbers_length, const uint8_t *peer, size_t peer_length);
 
@@ -66,7 +67,7 @@ static inline uint64_t p2p_session_33_64_request(const struct p2p_session_33_64 
         out_length == 0 ? &none : out, out_length);
 }
 
-static inline uint64_t p2p_session_33_64_request_of_peer(const struct p2p_session_33_64 *at,
+static inline uint64_t p2p_session_33_64_short_request(const struct p2p_session_33_64 *at,
     uint64_t number, const uint64_t *numbers, size_t numbers_length,
     const uint8_t *peer, size_t peer_length)
 {
@@ -114,7 +115,7 @@ static inline uint64_t p2p_session_33_64_track(struct p2p_session_33_64 *at, uin
 // How many bytes torn must have in track: the size of a key for each peer with a record.
 static inline uint64_t p2p_session_33_64_track_room(const struct p2p_session_33_64 *at)
 {
-    return p2p_session_33_64_request(at, 3, NULL, 0, NULL, 0, NULL, 0, NULL, 0, NULL, 0);
+    return p2p_session_33_64_short_request(at, 3, NULL, 0, NULL, 0);
 }
 
 // Reserves a peer to be dialled. Returns 1 if it is granted, else 0. The draw is a random duration
@@ -124,7 +125,7 @@ static inline uint64_t p2p_session_33_64_dial(struct p2p_session_33_64 *at,
     uint64_t draw_seconds, uint32_t draw_nanos)
 {
     const uint64_t numbers[] = {seconds, nanos, draw_seconds, draw_nanos};
-    return p2p_session_33_64_request_of_peer(at, 4, numbers, 4, peer, peer_length);
+    return p2p_session_33_64_short_request(at, 4, numbers, 4, peer, peer_length);
 }
 
 // Reserves an inbound peer. Returns 1 if it is granted, else 0. The draw is a random duration
@@ -134,7 +135,7 @@ static inline uint64_t p2p_session_33_64_listen(struct p2p_session_33_64 *at,
     uint64_t draw_seconds, uint32_t draw_nanos)
 {
     const uint64_t numbers[] = {seconds, nanos, draw_seconds, draw_nanos};
-    return p2p_session_33_64_request_of_peer(at, 5, numbers, 4, peer, peer_length);
+    return p2p_session_33_64_short_request(at, 5, numbers, 4, peer, peer_length);
 }
 
 // Describes the reservation that is held of a peer: byte 0 if it is inbound, or byte 1 and the
@@ -151,14 +152,14 @@ static inline uint64_t p2p_session_33_64_connect(struct p2p_session_33_64 *at,
     const uint8_t *peer, size_t peer_length, bool dialer)
 {
     const uint64_t numbers[] = {dialer};
-    return p2p_session_33_64_request_of_peer(at, 7, numbers, 1, peer, peer_length);
+    return p2p_session_33_64_short_request(at, 7, numbers, 1, peer, peer_length);
 }
 
 // Releases the reservation that is held of a peer. Returns 1, or NOT_HELD.
 static inline uint64_t p2p_session_33_64_release(struct p2p_session_33_64 *at,
     const uint8_t *peer, size_t peer_length)
 {
-    return p2p_session_33_64_request_of_peer(at, 8, NULL, 0, peer, peer_length);
+    return p2p_session_33_64_short_request(at, 8, NULL, 0, peer, peer_length);
 }
 
 // Offers infos, an encoded list, to the records of their peers. Returns 1. The host must have made
@@ -166,8 +167,7 @@ static inline uint64_t p2p_session_33_64_release(struct p2p_session_33_64 *at,
 static inline uint64_t p2p_session_33_64_update_peers(struct p2p_session_33_64 *at,
     const uint8_t *infos, size_t infos_length)
 {
-    return p2p_session_33_64_request(at, 9, NULL, 0, infos, infos_length, NULL, 0, NULL, 0,
-        NULL, 0);
+    return p2p_session_33_64_short_request(at, 9, NULL, 0, infos, infos_length);
 }
 
 // Blocks a peer. Returns 1 if the block takes effect, else 0.
@@ -175,7 +175,7 @@ static inline uint64_t p2p_session_33_64_block(struct p2p_session_33_64 *at,
     const uint8_t *peer, size_t peer_length, uint64_t seconds, uint32_t nanos)
 {
     const uint64_t numbers[] = {seconds, nanos};
-    return p2p_session_33_64_request_of_peer(at, 10, numbers, 2, peer, peer_length);
+    return p2p_session_33_64_short_request(at, 10, numbers, 2, peer, peer_length);
 }
 
 // Ends the blocks that hold until this time or an earlier one. Returns 1 if there was one, else 0.
@@ -183,7 +183,7 @@ static inline uint64_t p2p_session_33_64_unblock_expired(struct p2p_session_33_6
     uint64_t seconds, uint32_t nanos)
 {
     const uint64_t numbers[] = {seconds, nanos};
-    return p2p_session_33_64_request(at, 11, numbers, 2, NULL, 0, NULL, 0, NULL, 0, NULL, 0);
+    return p2p_session_33_64_short_request(at, 11, numbers, 2, NULL, 0);
 }
 
 // Forgets the cooldowns whose dial time has come. Returns how many.
@@ -191,7 +191,7 @@ static inline uint64_t p2p_session_33_64_forget_cooled(struct p2p_session_33_64 
     uint64_t seconds, uint32_t nanos)
 {
     const uint64_t numbers[] = {seconds, nanos};
-    return p2p_session_33_64_request(at, 12, numbers, 2, NULL, 0, NULL, 0, NULL, 0, NULL, 0);
+    return p2p_session_33_64_short_request(at, 12, numbers, 2, NULL, 0);
 }
 
 // The time at which the next block ends, in 12 bytes, or NONE.
@@ -214,7 +214,7 @@ static inline uint64_t p2p_session_33_64_blocked_peers(const struct p2p_session_
 static inline uint64_t p2p_session_33_64_status(const struct p2p_session_33_64 *at,
     const uint8_t *peer, size_t peer_length)
 {
-    return p2p_session_33_64_request_of_peer(at, 15, NULL, 0, peer, peer_length);
+    return p2p_session_33_64_short_request(at, 15, NULL, 0, peer, peer_length);
 }
 
 // The set with an index, or NONE: the number of primary peers in 8 bytes, their keys, and the keys
@@ -282,7 +282,7 @@ static inline uint64_t p2p_session_33_64_eligible(const struct p2p_session_33_64
     const uint8_t *peer, size_t peer_length, uint64_t seconds, uint32_t nanos)
 {
     const uint64_t numbers[] = {seconds, nanos};
-    return p2p_session_33_64_request_of_peer(at, 23, numbers, 2, peer, peer_length);
+    return p2p_session_33_64_short_request(at, 23, numbers, 2, peer, peer_length);
 }
 
 // Whether a connection of a peer may be accepted: 1 or 0.
@@ -290,7 +290,7 @@ static inline uint64_t p2p_session_33_64_acceptable(const struct p2p_session_33_
     const uint8_t *peer, size_t peer_length, uint64_t seconds, uint32_t nanos)
 {
     const uint64_t numbers[] = {seconds, nanos};
-    return p2p_session_33_64_request_of_peer(at, 24, numbers, 2, peer, peer_length);
+    return p2p_session_33_64_short_request(at, 24, numbers, 2, peer, peer_length);
 }
 
 // Byte 0, or byte 1 and the time at which to ask again, and then the keys of the peers that may be
@@ -306,7 +306,7 @@ static inline uint64_t p2p_session_33_64_dialable(const struct p2p_session_33_64
 // How many sets are retained: positions below this number have a set.
 static inline uint64_t p2p_session_33_64_retained(const struct p2p_session_33_64 *at)
 {
-    return p2p_session_33_64_request(at, 26, NULL, 0, NULL, 0, NULL, 0, NULL, 0, NULL, 0);
+    return p2p_session_33_64_short_request(at, 26, NULL, 0, NULL, 0);
 }
 
 // The time at which forget_cooled next forgets something, in 12 bytes, or NONE if no cooldown is
@@ -320,7 +320,7 @@ static inline uint64_t p2p_session_33_64_next_cooled(const struct p2p_session_33
 // How many peers have a record, except the local node.
 static inline uint64_t p2p_session_33_64_tracked(const struct p2p_session_33_64 *at)
 {
-    return p2p_session_33_64_request(at, 28, NULL, 0, NULL, 0, NULL, 0, NULL, 0, NULL, 0);
+    return p2p_session_33_64_short_request(at, 28, NULL, 0, NULL, 0);
 }
 
 // The frame that asks for the wanted infos of the set at a position, or NONE.

@@ -42,8 +42,9 @@ uint64_t p2p_session_96_48_call(struct p2p_session_96_48 *at, uint64_t number,
     const uint8_t *second, size_t second_length, const uint8_t *third, size_t third_length,
     uint8_t *out, size_t out_length);
 
-// The same with peer as first, and with nothing in second, third and out. Its arguments are passed
-// in registers, which makes the calls of a peer shorter. No pointer may be null.
+// The same with peer as first, and with nothing in second, third and out: for the calls that take
+// bytes in one place at most and write nothing. Its arguments are passed in registers, so it takes
+// less time. No pointer may be null.
 uint64_t p2p_session_96_48_call_peer(struct p2p_session_96_48 *at, uint64_t number,
     const uint64_t *numbers, size_t numbers_length, const uint8_t *peer, size_t peer_length);
 
@@ -65,7 +66,7 @@ static inline uint64_t p2p_session_96_48_request(const struct p2p_session_96_48 
         out_length == 0 ? &none : out, out_length);
 }
 
-static inline uint64_t p2p_session_96_48_request_of_peer(const struct p2p_session_96_48 *at,
+static inline uint64_t p2p_session_96_48_short_request(const struct p2p_session_96_48 *at,
     uint64_t number, const uint64_t *numbers, size_t numbers_length,
     const uint8_t *peer, size_t peer_length)
 {
@@ -113,7 +114,7 @@ static inline uint64_t p2p_session_96_48_track(struct p2p_session_96_48 *at, uin
 // How many bytes torn must have in track: the size of a key for each peer with a record.
 static inline uint64_t p2p_session_96_48_track_room(const struct p2p_session_96_48 *at)
 {
-    return p2p_session_96_48_request(at, 3, NULL, 0, NULL, 0, NULL, 0, NULL, 0, NULL, 0);
+    return p2p_session_96_48_short_request(at, 3, NULL, 0, NULL, 0);
 }
 
 // Reserves a peer to be dialled. Returns 1 if it is granted, else 0. The draw is a random duration
@@ -123,7 +124,7 @@ static inline uint64_t p2p_session_96_48_dial(struct p2p_session_96_48 *at,
     uint64_t draw_seconds, uint32_t draw_nanos)
 {
     const uint64_t numbers[] = {seconds, nanos, draw_seconds, draw_nanos};
-    return p2p_session_96_48_request_of_peer(at, 4, numbers, 4, peer, peer_length);
+    return p2p_session_96_48_short_request(at, 4, numbers, 4, peer, peer_length);
 }
 
 // Reserves an inbound peer. Returns 1 if it is granted, else 0. The draw is a random duration
@@ -133,7 +134,7 @@ static inline uint64_t p2p_session_96_48_listen(struct p2p_session_96_48 *at,
     uint64_t draw_seconds, uint32_t draw_nanos)
 {
     const uint64_t numbers[] = {seconds, nanos, draw_seconds, draw_nanos};
-    return p2p_session_96_48_request_of_peer(at, 5, numbers, 4, peer, peer_length);
+    return p2p_session_96_48_short_request(at, 5, numbers, 4, peer, peer_length);
 }
 
 // Describes the reservation that is held of a peer: byte 0 if it is inbound, or byte 1 and the
@@ -150,14 +151,14 @@ static inline uint64_t p2p_session_96_48_connect(struct p2p_session_96_48 *at,
     const uint8_t *peer, size_t peer_length, bool dialer)
 {
     const uint64_t numbers[] = {dialer};
-    return p2p_session_96_48_request_of_peer(at, 7, numbers, 1, peer, peer_length);
+    return p2p_session_96_48_short_request(at, 7, numbers, 1, peer, peer_length);
 }
 
 // Releases the reservation that is held of a peer. Returns 1, or NOT_HELD.
 static inline uint64_t p2p_session_96_48_release(struct p2p_session_96_48 *at,
     const uint8_t *peer, size_t peer_length)
 {
-    return p2p_session_96_48_request_of_peer(at, 8, NULL, 0, peer, peer_length);
+    return p2p_session_96_48_short_request(at, 8, NULL, 0, peer, peer_length);
 }
 
 // Offers infos, an encoded list, to the records of their peers. Returns 1. The host must have made
@@ -165,8 +166,7 @@ static inline uint64_t p2p_session_96_48_release(struct p2p_session_96_48 *at,
 static inline uint64_t p2p_session_96_48_update_peers(struct p2p_session_96_48 *at,
     const uint8_t *infos, size_t infos_length)
 {
-    return p2p_session_96_48_request(at, 9, NULL, 0, infos, infos_length, NULL, 0, NULL, 0,
-        NULL, 0);
+    return p2p_session_96_48_short_request(at, 9, NULL, 0, infos, infos_length);
 }
 
 // Blocks a peer. Returns 1 if the block takes effect, else 0.
@@ -174,7 +174,7 @@ static inline uint64_t p2p_session_96_48_block(struct p2p_session_96_48 *at,
     const uint8_t *peer, size_t peer_length, uint64_t seconds, uint32_t nanos)
 {
     const uint64_t numbers[] = {seconds, nanos};
-    return p2p_session_96_48_request_of_peer(at, 10, numbers, 2, peer, peer_length);
+    return p2p_session_96_48_short_request(at, 10, numbers, 2, peer, peer_length);
 }
 
 // Ends the blocks that hold until this time or an earlier one. Returns 1 if there was one, else 0.
@@ -182,7 +182,7 @@ static inline uint64_t p2p_session_96_48_unblock_expired(struct p2p_session_96_4
     uint64_t seconds, uint32_t nanos)
 {
     const uint64_t numbers[] = {seconds, nanos};
-    return p2p_session_96_48_request(at, 11, numbers, 2, NULL, 0, NULL, 0, NULL, 0, NULL, 0);
+    return p2p_session_96_48_short_request(at, 11, numbers, 2, NULL, 0);
 }
 
 // Forgets the cooldowns whose dial time has come. Returns how many.
@@ -190,7 +190,7 @@ static inline uint64_t p2p_session_96_48_forget_cooled(struct p2p_session_96_48 
     uint64_t seconds, uint32_t nanos)
 {
     const uint64_t numbers[] = {seconds, nanos};
-    return p2p_session_96_48_request(at, 12, numbers, 2, NULL, 0, NULL, 0, NULL, 0, NULL, 0);
+    return p2p_session_96_48_short_request(at, 12, numbers, 2, NULL, 0);
 }
 
 // The time at which the next block ends, in 12 bytes, or NONE.
@@ -213,7 +213,7 @@ static inline uint64_t p2p_session_96_48_blocked_peers(const struct p2p_session_
 static inline uint64_t p2p_session_96_48_status(const struct p2p_session_96_48 *at,
     const uint8_t *peer, size_t peer_length)
 {
-    return p2p_session_96_48_request_of_peer(at, 15, NULL, 0, peer, peer_length);
+    return p2p_session_96_48_short_request(at, 15, NULL, 0, peer, peer_length);
 }
 
 // The set with an index, or NONE: the number of primary peers in 8 bytes, their keys, and the keys
@@ -281,7 +281,7 @@ static inline uint64_t p2p_session_96_48_eligible(const struct p2p_session_96_48
     const uint8_t *peer, size_t peer_length, uint64_t seconds, uint32_t nanos)
 {
     const uint64_t numbers[] = {seconds, nanos};
-    return p2p_session_96_48_request_of_peer(at, 23, numbers, 2, peer, peer_length);
+    return p2p_session_96_48_short_request(at, 23, numbers, 2, peer, peer_length);
 }
 
 // Whether a connection of a peer may be accepted: 1 or 0.
@@ -289,7 +289,7 @@ static inline uint64_t p2p_session_96_48_acceptable(const struct p2p_session_96_
     const uint8_t *peer, size_t peer_length, uint64_t seconds, uint32_t nanos)
 {
     const uint64_t numbers[] = {seconds, nanos};
-    return p2p_session_96_48_request_of_peer(at, 24, numbers, 2, peer, peer_length);
+    return p2p_session_96_48_short_request(at, 24, numbers, 2, peer, peer_length);
 }
 
 // Byte 0, or byte 1 and the time at which to ask again, and then the keys of the peers that may be
@@ -305,7 +305,7 @@ static inline uint64_t p2p_session_96_48_dialable(const struct p2p_session_96_48
 // How many sets are retained: positions below this number have a set.
 static inline uint64_t p2p_session_96_48_retained(const struct p2p_session_96_48 *at)
 {
-    return p2p_session_96_48_request(at, 26, NULL, 0, NULL, 0, NULL, 0, NULL, 0, NULL, 0);
+    return p2p_session_96_48_short_request(at, 26, NULL, 0, NULL, 0);
 }
 
 // The time at which forget_cooled next forgets something, in 12 bytes, or NONE if no cooldown is
@@ -319,7 +319,7 @@ static inline uint64_t p2p_session_96_48_next_cooled(const struct p2p_session_96
 // How many peers have a record, except the local node.
 static inline uint64_t p2p_session_96_48_tracked(const struct p2p_session_96_48 *at)
 {
-    return p2p_session_96_48_request(at, 28, NULL, 0, NULL, 0, NULL, 0, NULL, 0, NULL, 0);
+    return p2p_session_96_48_short_request(at, 28, NULL, 0, NULL, 0);
 }
 
 // The frame that asks for the wanted infos of the set at a position, or NONE.

@@ -1,7 +1,7 @@
 """Writes the headers for C and C++, and the table of docs/C.md with the calls by their numbers.
 
-The header of each pair of sizes has a function for each call, which makes it by the one call of the library, or by that of
-a peer. What all pairs have in common stands in a header that they include.
+The header of each pair of sizes has a function for each call, which makes it by the one call of the library, or by the
+shorter one. What all pairs have in common stands in a header that they include.
 """
 import os
 import re
@@ -122,8 +122,7 @@ def call(prefix, one, interface):
     at = f"{'' if one.changes else 'const '}struct {prefix} *at"
     numbers = [NAMES.get(name, name) for name in one.numbers()]
     slices = [NAMES.get(name, name) for name in one.slices()]
-    if not one.is_of_peer():
-        slices += [None] * (3 - len(slices)) + [one.out()]
+    slices += [None] * (1 - len(slices)) if one.is_short() else [None] * (3 - len(slices)) + [one.out()]
     passed = [f'at, {one.number}', f'numbers, {len(numbers)}' if numbers else 'NULL, 0']
     passed += [f'{name}, {name}_length' if name else 'NULL, 0' for name in slices]
     head = in_lines(f'static inline uint64_t {prefix}_{one.name}(', [at, *declared(one.params)], ')')
@@ -132,7 +131,7 @@ def call(prefix, one, interface):
         lines.append(f'    (void){interface}();')
     if numbers:
         lines.append(in_lines('    const uint64_t numbers[] = {', numbers, '};'))
-    made_by = 'request_of_peer' if one.is_of_peer() else 'request'
+    made_by = 'short_request' if one.is_short() else 'request'
     return '\n'.join([*lines, in_lines(f'    return {prefix}_{made_by}(', passed, ');'), '}', ''])
 
 

@@ -25,7 +25,7 @@ NUMBERS = ('u64', 'u32', 'bool')
 
 # What every call takes, by its number.
 CALL = ['number: u64', 'numbers: &[u64]', 'first: &[u8]', 'second: &[u8]', 'third: &[u8]', 'out: &mut [u8]']
-# What a call of a peer takes, in registers.
+# What a call takes, in registers, that takes bytes in one place at most and writes no answer.
 CALL_PEER = ['number: u64', 'numbers: &[u64]', 'peer: &[u8]']
 
 
@@ -49,9 +49,9 @@ class Call:
         """What the answer is written to, or None."""
         return next((name for name, type_ in self.params if type_ == '&mut [u8]'), None)
 
-    def is_of_peer(self):
-        """Whether it takes a peer, no other bytes, and writes no answer. Then it is made by call_peer."""
-        return self.slices() == ['peer'] and not self.out()
+    def is_short(self):
+        """Whether it takes bytes in one place at most, and writes no answer. Then it is made by call_peer."""
+        return len(self.slices()) <= 1 and not self.out()
 
 
 @dataclasses.dataclass

@@ -116,8 +116,8 @@ pub unsafe extern "C" fn p2p_session_call(
 }
 
 /// Makes the call of this number with `peer` as its first bytes, no others, and no answer that is
-/// written. What it takes is passed in registers, so the calls of a peer are made by it. BAD_CALL if
-/// this is no call.
+/// written. What it takes is passed in registers, so calls are made by it that need no more. BAD_CALL
+/// if this is no call.
 ///
 /// # Safety
 ///

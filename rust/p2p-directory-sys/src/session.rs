@@ -31,7 +31,8 @@ pub trait Caller {
     fn call(&self, number: u64, numbers: &[u64], bytes: [&[u8]; 3], out: &mut [u8]) -> u64;
 
     /// The same with `peer` as the first slice, and with nothing in the others. The methods that take
-    /// a peer, and write no answer, make their calls by it. What implements it may make them faster.
+    /// one slice at most, and write no answer, make their calls by it. What implements it may make
+    /// them faster.
     #[inline]
     fn call_peer(&self, number: u64, numbers: &[u64], peer: &[u8]) -> u64 {
         self.call(number, numbers, [peer, &[], &[]], &mut [])
@@ -167,7 +168,7 @@ impl<C: Caller> Session<C> {
     /// How many bytes torn must have in track: the size of a key for each peer with a record.
     #[inline]
     pub fn track_room(&self) -> u64 {
-        self.call(3, &[], [&[]; 3], &mut [])
+        self.call_peer(3, &[], &[])
     }
 
     /// Reserves a peer to be dialled. Returns 1 if it is granted, else 0. The draw is a random
@@ -223,7 +224,7 @@ impl<C: Caller> Session<C> {
     /// made or verified them itself.
     #[inline]
     pub fn update_peers(&self, infos: &[u8]) -> u64 {
-        self.call(9, &[], [infos, &[], &[]], &mut [])
+        self.call_peer(9, &[], infos)
     }
 
     /// Blocks a peer. Returns 1 if the block takes effect, else 0.
@@ -236,13 +237,13 @@ impl<C: Caller> Session<C> {
     /// else 0.
     #[inline]
     pub fn unblock_expired(&self, seconds: u64, nanos: u32) -> u64 {
-        self.call(11, &[seconds, nanos.into()], [&[]; 3], &mut [])
+        self.call_peer(11, &[seconds, nanos.into()], &[])
     }
 
     /// Forgets the cooldowns whose dial time has come. Returns how many.
     #[inline]
     pub fn forget_cooled(&self, seconds: u64, nanos: u32) -> u64 {
-        self.call(12, &[seconds, nanos.into()], [&[]; 3], &mut [])
+        self.call_peer(12, &[seconds, nanos.into()], &[])
     }
 
     /// The time at which the next block ends, in 12 bytes, or NONE.
@@ -332,7 +333,7 @@ impl<C: Caller> Session<C> {
     /// How many sets are retained: positions below this number have a set.
     #[inline]
     pub fn retained(&self) -> u64 {
-        self.call(26, &[], [&[]; 3], &mut [])
+        self.call_peer(26, &[], &[])
     }
 
     /// The time at which forget_cooled next forgets something, in 12 bytes, or NONE if no cooldown
@@ -345,7 +346,7 @@ impl<C: Caller> Session<C> {
     /// How many peers have a record, except the local node.
     #[inline]
     pub fn tracked(&self) -> u64 {
-        self.call(28, &[], [&[]; 3], &mut [])
+        self.call_peer(28, &[], &[])
     }
 
     /// The frame that asks for the wanted infos of the set at a position, or NONE.

@@ -102,21 +102,31 @@ impl<C: PublicKey> Session<C> {
     ///
     /// # Cost
     ///
-    /// That of the call. A call of a peer is found by four comparisons at most, any other one as
-    /// [`Session::call`] finds it.
+    /// That of the call. One that takes bytes in one place at most, and writes nothing, is found by one
+    /// look at a table; any other as [`Session::call`] finds it.
     #[inline(always)]
     pub fn call_peer(&mut self, alloc: Global, number: u64, numbers: &[u64], peer: &[u8]) -> u64
         ensures { ServesCall (scheme C.PublicKey C.Signature.FixedBytes) number numbers.now peer.now
             [] [] [] [] self.old self.new result }
     {
         match (number, numbers) {
+            (3, []) if peer.is_empty() => self.track_room(),
             (8, []) => self.release(peer),
+            (9, []) => self.update_peers(alloc, peer),
             (15, []) => self.status(peer),
+            (26, []) if peer.is_empty() => self.retained(),
+            (28, []) if peer.is_empty() => self.tracked(),
             (7, [dialer]) => match bool_of(*dialer) {
                 Some(dialer) => self.connect(peer, dialer),
                 None => Refusal::BadCall.number(),
             },
             (10, [seconds, nanos]) => self.block(peer, *seconds, nanos_of(*nanos)),
+            (11, [seconds, nanos]) if peer.is_empty() => {
+                self.unblock_expired(*seconds, nanos_of(*nanos))
+            }
+            (12, [seconds, nanos]) if peer.is_empty() => {
+                self.forget_cooled(*seconds, nanos_of(*nanos))
+            }
             (23, [seconds, nanos]) => self.eligible(peer, *seconds, nanos_of(*nanos)),
             (24, [seconds, nanos]) => self.acceptable(peer, *seconds, nanos_of(*nanos)),
             (_, [_, _, _, _]) => self.call_with_draw(number, peer, numbers),

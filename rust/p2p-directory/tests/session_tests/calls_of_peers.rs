@@ -1,10 +1,12 @@
-//! Calls by [`Session::call_peer`]: those of a peer answer as `docs/C.md` says, each other one as by
-//! `call`, and what is no call is refused.
+//! Calls by [`Session::call_peer`]: those that take bytes in one place at most, and write nothing, answer
+//! as `docs/C.md` says, each other one as by `call`, and what is no call is refused.
 
 use super::given::{asked, info, infos, key, keys, session, tracking};
 use super::{Exported, Session};
 use crate::table;
-use p2p_directory_sys::{BAD_CALL, BAD_KEY, BAD_MOMENT, NO_NODE, NONE, NOT_HELD, NOT_RESERVED};
+use p2p_directory_sys::{
+    BAD_CALL, BAD_INFO, BAD_KEY, BAD_MOMENT, NO_NODE, NONE, NOT_HELD, NOT_RESERVED,
+};
 
 tests_of_each_pair! {
     a_status_is_told,
@@ -12,6 +14,8 @@ tests_of_each_pair! {
     a_dial_is_granted,
     an_inbound_peer_is_reserved_and_connected,
     a_peer_is_blocked,
+    what_takes_no_bytes_is_told,
+    infos_are_taken,
     times_are_read_by_call_peer,
     no_call_is_made_without_a_node,
     what_is_no_call_changes_nothing_by_call_peer,
@@ -22,6 +26,7 @@ const DIAL: u64 = 4;
 const LISTEN: u64 = 5;
 const CONNECT: u64 = 7;
 const RELEASE: u64 = 8;
+const UPDATE_PEERS: u64 = 9;
 const BLOCK: u64 = 10;
 const STATUS: u64 = 15;
 const ELIGIBLE: u64 = 23;
@@ -37,6 +42,21 @@ const CALLS: [(u64, usize); 8] = [
     (STATUS, 0),
     (ELIGIBLE, 2),
     (ACCEPTABLE, 2),
+];
+
+const TRACK_ROOM: u64 = 3;
+const UNBLOCK_EXPIRED: u64 = 11;
+const FORGET_COOLED: u64 = 12;
+const RETAINED: u64 = 26;
+const TRACKED: u64 = 28;
+
+/// The calls that take no bytes, and write nothing, and how many numbers each takes.
+const CALLS_OF_NO_BYTES: [(u64, usize); 5] = [
+    (TRACK_ROOM, 0),
+    (UNBLOCK_EXPIRED, 2),
+    (FORGET_COOLED, 2),
+    (RETAINED, 0),
+    (TRACKED, 0),
 ];
 
 // `NONE` without a record; 0 inert, 1 reserved, 2 connected.
@@ -106,6 +126,35 @@ fn a_peer_is_blocked<P: Exported>() {
     assert_eq!(asked(|room| session.next_unblock(room)), moment);
 }
 
+// A node without a set tracks nobody. A block ends 60 seconds later, a cooldown 10.
+fn what_takes_no_bytes_is_told<P: Exported>() {
+    let ask = |session: &Session<P>, number| session.call_peer(number, &[], &[]);
+    let all = |session| [TRACKED, RETAINED, TRACK_ROOM].map(|number| ask(session, number));
+    let fresh = session::<P>(9);
+    assert_eq!(all(&fresh), [0, 0, 0]);
+    let session = tracking::<P>(9, &[1, 2]);
+    assert_eq!(all(&session), [2, 1, 2 * P::KEY_SIZE as u64]);
+    assert_eq!(session.block(&key::<P>(2), 100, 5), 1);
+    let unblock = |nanos| session.call_peer(UNBLOCK_EXPIRED, &[160, nanos], &[]);
+    assert_eq!([unblock(4), unblock(5), unblock(5)], [0, 1, 0]);
+    assert_eq!(session.listen(&key::<P>(1), 100, 5, 0, 0), 1);
+    let forget = |nanos| session.call_peer(FORGET_COOLED, &[110, nanos], &[]);
+    assert_eq!([forget(4), forget(5), forget(5)], [0, 1, 0]);
+    for number in [UNBLOCK_EXPIRED, FORGET_COOLED] {
+        let answer = session.call_peer(number, &[110, 1 << 32], &[]);
+        assert_eq!(answer, BAD_MOMENT, "{number}");
+    }
+}
+
+fn infos_are_taken<P: Exported>() {
+    let session = tracking::<P>(9, &[1]);
+    let update = |infos: &[u8]| session.call_peer(UPDATE_PEERS, &[], infos);
+    assert_eq!(update(&infos::<P>(&[(1, 100)])), 1);
+    let now = [&[0][..], &key::<P>(1)].concat();
+    assert_eq!(asked(|room| session.dialable(100, 5, room)), now);
+    assert_eq!(update(&[1]), BAD_INFO);
+}
+
 // Nanoseconds are below 1,000,000,000, of the draw, too; however many there are else, it is the same.
 fn times_are_read_by_call_peer<P: Exported>() {
     let session = tracking::<P>(9, &[1]);
@@ -132,6 +181,11 @@ fn no_call_is_made_without_a_node<P: Exported>() {
         let answer = session.call_peer(number, &[1; 4][..count], &key::<P>(1));
         assert_eq!(answer, NO_NODE, "{number}");
         assert_eq!(session.call_peer(number, &[1; 5], &[]), BAD_CALL);
+    }
+    for (number, count) in CALLS_OF_NO_BYTES {
+        let answer = session.call_peer(number, &[1; 2][..count], &[]);
+        assert_eq!(answer, NO_NODE, "{number}");
+        assert_eq!(session.call_peer(number, &[1; 2][..count], &[0]), BAD_CALL);
     }
 }
 
@@ -169,6 +223,14 @@ fn what_is_no_call_changes_nothing_by_call_peer<P: Exported>() {
     for (number, count) in CALLS {
         for other in (0..=16).filter(|other| *other != count) {
             refused(number, &[1; 16][..other], &key::<P>(1));
+        }
+    }
+    for (number, count) in CALLS_OF_NO_BYTES {
+        for other in (0..=16).filter(|other| *other != count) {
+            refused(number, &[1; 16][..other], &[]);
+        }
+        for bytes in [vec![0], key::<P>(1)] {
+            refused(number, &[1; 16][..count], &bytes);
         }
     }
     for dialer in [2, 3, 1 << 8, 1 << 32, u64::MAX] {
