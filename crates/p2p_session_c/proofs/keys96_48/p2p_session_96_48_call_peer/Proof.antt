@@ -11,7 +11,7 @@ use mir.Val.{Val, vptr}
 use contract.Monad.{fact}
 use contract.Running.{tables}
 use types.Kit.{‵, raw, prop, at_ret, ◌⊛◌, some, later, ◌$◌, ◌∵◌, !, qed, done, drop, move, keep, use1, use2, use3, split, join, fsplit, pick, await, rewrite, regoal, suffices, frame, group, show}
-use types.Run.{enter, of_opd, addr, stop, from, first, blocks, exec, no_more, and_then, returns}
+use types.Run.{enter, of_opd, addr, stop, first, blocks, exec, no_more, and_then, returns}
 use types.ByLocal.{env, alloc_all, pass_all, free_all, look_at, get, through, sets, sets_last, lands_as}
 use denote.Builtin.{u8, u64, SliceRefOf}
 use denote.Exit.{yes}
