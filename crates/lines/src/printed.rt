@@ -222,11 +222,11 @@ impl fmt::Display for Line<'_, Dialable<TestKey>> {
     }
 }
 
-impl fmt::Display for Line<'_, Received> {
+impl fmt::Display for Line<'_, Received<TestKey>> {
     fn fmt<W: fmt::Write>(&self, f: &mut fmt::Formatter<W>) -> fmt::Result {
         match self.0 {
             Received::Data(data) => write!(f, "Data({})", Line(data)),
-            Received::Greeted => f.write_str("Greeted"),
+            Received::Greeted(_) => f.write_str("Greeted"),
             Received::Reply(frame) => write!(f, "Reply({})", Hex(frame.as_slice())),
             Received::Applied(count) => write!(f, "Applied({count})"),
             Received::Codec(fault) => write!(f, "Codec({fault:?})"),

@@ -1,6 +1,6 @@
 -- What is held, and the commands of a run.
 pub mod Slots
-pub mod Listed
+pub mod Removed
 pub mod Holding
 pub mod Effects
 pub mod Served

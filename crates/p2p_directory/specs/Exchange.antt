@@ -114,7 +114,7 @@ IsExchanged cmp wire place s t r a b a2 =
 
 module _ {C S : Type 0} (wire : Wire C S) (asker replier : Standing C S) (place : ℕ) where
   -- the asker asks with a frame; the replier answers it with this, and applies nothing
-  abbrev pub AnswersAsk : ℕ → Received → Type 0
+  abbrev pub AnswersAsk : ℕ → Received C S → Type 0
   AnswersAsk t answer = (frame : List ℕ) × (ask_frame_at wire asker place ≡ Some frame)
       × ((received_at wire replier frame t).answer ≡ answer)
       × ((received_at wire replier frame t).applied ≡ None)

@@ -200,7 +200,7 @@ module _ {C S : Type 0} (cmp : C → C → Ordering) (wire : Wire C S) where
     pub stepped : (v : NodeView C S) → IsStepped cmp x r (slice_index_or vs i v) node
 
   -- .. took a frame at a moment
-  pub record ReceivesAt (i : ℕ) (frame : List ℕ) (now : ℕ) (r : Received)
+  pub record ReceivesAt (i : ℕ) (frame : List ℕ) (now : ℕ) (r : Received C S)
       (vs vs2 : List (NodeView C S)) : Type 0 where
     pub there : i < length vs
     pub node : NodeView C S

@@ -127,7 +127,7 @@ module _ {C S : Type 0} (m : Made C S) where
   -- an answer that may be want of memory or not, by how the node stands, is this at its point, and
   -- the node then stands at the point after the update that it made, if it made one
   pub record IsAnsweredAt (wire : Wire C S) (calls : List (Call C S)) (may : Standing C S → Bool)
-      (outcome : Standing C S → FrameOutcome C S) (r : Received) (v : NodeView C S) : Type 0 where
+      (outcome : Standing C S → FrameOutcome C S) (r : Received C S) (v : NodeView C S) : Type 0 where
     pub answer :
         let node = standing_in wire (world_after m.directory calls) in
         frames.IsFrameAnswer (may node) (outcome node) r
@@ -135,12 +135,12 @@ module _ {C S : Type 0} (m : Made C S) where
         NodeStandsAt (calls_with (applied_with (outcome node) r) calls) v
 
   -- .. to a frame
-  abbrev pub IsReceivedAt : Wire C S → List (Call C S) → List ℕ → ℕ → Received → NodeView C S → Type 0
+  abbrev pub IsReceivedAt : Wire C S → List (Call C S) → List ℕ → ℕ → Received C S → NodeView C S → Type 0
   IsReceivedAt wire calls frame now = IsAnsweredAt wire calls
       (λ node. frame_may_want_memory wire node frame now) (λ node. received_at wire node frame now)
 
   -- .. by these verdicts on the signatures of its infos
-  abbrev pub IsReceivedByAt : Wire C S → List (Call C S) → List Bool → List ℕ → ℕ → Received →
+  abbrev pub IsReceivedByAt : Wire C S → List (Call C S) → List Bool → List ℕ → ℕ → Received C S →
       NodeView C S → Type 0
   IsReceivedByAt wire calls verdicts frame now = IsAnsweredAt wire calls
       (λ node. frame_may_want_memory_by wire (λ _. verdicts) node frame now)
@@ -166,10 +166,10 @@ module _ {C S : Type 0} (cmp : C → C → Ordering) where
   abbrev pub IsStepped : Command C S → Reply C S → NodeView C S → NodeView C S → Type 0
   IsStepped x r v v2 = AtEach v (λ m calls. IsSteppedAt m calls (call_of x) r v2)
 
-  abbrev pub IsReceived : Wire C S → List ℕ → ℕ → Received → NodeView C S → NodeView C S → Type 0
+  abbrev pub IsReceived : Wire C S → List ℕ → ℕ → Received C S → NodeView C S → NodeView C S → Type 0
   IsReceived wire frame now r v v2 = AtEach v (λ m calls. IsReceivedAt m wire calls frame now r v2)
 
-  abbrev pub IsReceivedBy : Wire C S → List Bool → List ℕ → ℕ → Received → NodeView C S →
+  abbrev pub IsReceivedBy : Wire C S → List Bool → List ℕ → ℕ → Received C S → NodeView C S →
       NodeView C S → Type 0
   IsReceivedBy wire verdicts frame now r v v2 =
       AtEach v (λ m calls. IsReceivedByAt m wire calls verdicts frame now r v2)
@@ -207,17 +207,17 @@ module _ {C S : Type 0} (cmp : C → C → Ordering) where
 
   -- an answer that may be want of memory or not, and what is left
   pub record Answers
-      (may : Bool) (o : FrameOutcome C S) (r : Received) (v v2 : NodeView C S) : Type 0 where
+      (may : Bool) (o : FrameOutcome C S) (r : Received C S) (v v2 : NodeView C S) : Type 0 where
     pub answer : frames.IsFrameAnswer may o r
     pub left : IsLeft v (applied_with o r) v2
 
   -- .. to a frame at a moment
-  abbrev pub AnswersFrame : Wire C S → List ℕ → ℕ → Received → NodeView C S → NodeView C S → Type 0
+  abbrev pub AnswersFrame : Wire C S → List ℕ → ℕ → Received C S → NodeView C S → NodeView C S → Type 0
   AnswersFrame wire frame now r v v2 = let node = standing_of cmp wire v in
       Answers (frame_may_want_memory wire node frame now) (received_at wire node frame now) r v v2
 
   -- .. by these verdicts on the signatures of its infos
-  abbrev pub AnswersFrameBy : Wire C S → List Bool → List ℕ → ℕ → Received → NodeView C S →
+  abbrev pub AnswersFrameBy : Wire C S → List Bool → List ℕ → ℕ → Received C S → NodeView C S →
       NodeView C S → Type 0
   AnswersFrameBy wire verdicts frame now r v v2 = let node = standing_of cmp wire v in
       Answers (frame_may_want_memory_by wire (λ _. verdicts) node frame now)
@@ -225,7 +225,7 @@ module _ {C S : Type 0} (cmp : C → C → Ordering) where
 
   -- the infos that it tells have a spelling: they are made of values of their types
   abbrev pub TellsValues : Wire C S → (C → Type 0) → (S → Type 0) →
-      List ℕ → ℕ → Received → NodeView C S → Type 0
+      List ℕ → ℕ → Received C S → NodeView C S → Type 0
   TellsValues wire IsKey IsSignature frame now r v =
       let node = standing_of cmp wire v in
       AreValues IsKey IsSignature (told_with (received_at wire node frame now) r)

@@ -1,6 +1,5 @@
 -- Words of private contracts. Nobody outside of the crate sees them.
 pub mod Slots
-pub mod Tables
 pub mod Serving
 pub mod Frames
 pub mod Endpoints

@@ -54,43 +54,43 @@ pub record Standing (C S : Type 0) : Type 0 where
 -- an answer, the infos that an update call applies with it, if it makes one, and the infos that
 -- are told by it
 pub record FrameOutcome (C S : Type 0) : Type 0 where
-  pub answer : Received
+  pub answer : Received C S
   pub applied : Option (List (Info C S))
   pub told : List (Info C S)
 
 -- an answer with which nothing is applied, and no info is told
-abbrev pub only : {C S : Type 0} → Received → FrameOutcome C S
+abbrev pub only : {C S : Type 0} → Received C S → FrameOutcome C S
 only answer = record { answer = answer; applied = None; told = [] }
 
 -- .. with which these infos are applied
-abbrev pub applying : {C S : Type 0} → Received → List (Info C S) → FrameOutcome C S
+abbrev pub applying : {C S : Type 0} → Received C S → List (Info C S) → FrameOutcome C S
 applying answer infos = record { answer = answer; applied = Some infos; told = [] }
 
 -- an answer to which room is asked for: to a greeting that is applied, and a reply
-abbrev pub takes_room : Received → Bool
-takes_room received.Greeted = true
+abbrev pub takes_room : {C S : Type 0} → Received C S → Bool
+takes_room (received.Greeted key) = true
 takes_room (received.Reply frame) = true
 takes_room _ = false
 
 -- an answer with which infos are applied: all others leave the node as it was
-abbrev pub applies : Received → Bool
-applies received.Greeted = true
+abbrev pub applies : {C S : Type 0} → Received C S → Bool
+applies (received.Greeted key) = true
 applies (received.Applied count) = true
 applies _ = false
 
 module _ {C S : Type 0} where
   -- want of memory where it is allowed, else this answer
-  abbrev pub IsFrameAnswer : Bool → FrameOutcome C S → Received → Type 0
+  abbrev pub IsFrameAnswer : Bool → FrameOutcome C S → Received C S → Type 0
   IsFrameAnswer may o received.Memory = may ≡ true
   IsFrameAnswer may o r = r ≡ o.answer
 
   -- the infos that are applied with an answer: where memory was refused none
-  abbrev pub applied_with : FrameOutcome C S → Received → Option (List (Info C S))
+  abbrev pub applied_with : FrameOutcome C S → Received C S → Option (List (Info C S))
   applied_with o received.Memory = None
   applied_with o r = o.applied
 
   -- the infos that are told with an answer: where memory was refused none
-  abbrev pub told_with : FrameOutcome C S → Received → List (Info C S)
+  abbrev pub told_with : FrameOutcome C S → Received C S → List (Info C S)
   told_with o received.Memory = []
   told_with o r = o.told
 
@@ -100,7 +100,7 @@ AreFew (answer.Infos infos) = length infos < 2 ^ 32
 AreFew (answer.Received r) = Unit {0}
 
 -- want of memory, and no other answer
-abbrev pub IsWantOfMemory : Received → Type 0
+abbrev pub IsWantOfMemory : {C S : Type 0} → Received C S → Type 0
 IsWantOfMemory received.Memory = Unit {0}
 IsWantOfMemory _ = ⊥
 
@@ -121,7 +121,7 @@ miscounts verdicts (Err fault) = false
 module _ {C S : Type 0} (wire : Wire C S) where
   -- a greeting, by why it is refused, if it is
   abbrev pub greeted : Info C S → Option Error → FrameOutcome C S
-  greeted info None = applying received.Greeted (info ∷ [])
+  greeted info None = applying (received.Greeted info.public_key) (info ∷ [])
   greeted info (Some e) = only (received.Invalid e)
 
   -- bits, by the infos for them, if there are any at all
@@ -159,7 +159,7 @@ module _ {C S : Type 0} (wire : Wire C S) where
   read_at node now = read_by (verdicts_of node.judge) node now
 
   -- what is returned for a frame, once the infos of a reply are encoded
-  abbrev pub received_of : Answer C S → Received
+  abbrev pub received_of : Answer C S → Received C S
   received_of (answer.Infos infos) = received.Reply (wire.spelling (said.Peers infos))
   received_of (answer.Received r) = r
 

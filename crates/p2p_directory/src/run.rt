@@ -1,12 +1,12 @@
 //! Commands to a directory, served one after the other, and their replies.
 
-ghost use Rattle.std.specs.Prelude.{ℕ, ◌≡◌, ◌<◌, ◌-◌, ◌^◌, [], None, IfOk};
+ghost use Rattle.std.specs.Prelude.{ℕ, ◌≡◌, ◌<◌, ◌-◌, ◌^◌, [], None, IfOk, OnOk};
 ghost use Rattle.std.specs.Int.NonZero.{non_zero_usize_get};
-ghost use Rattle.std.specs.List.{All, AllPass};
+ghost use Rattle.std.specs.List.{AllPass};
 ghost use Rattle.p2p_tracker.specs.Directory.{bit_vec_at};
 ghost use Rattle.p2p_directory.specs.Held.{held_of};
 ghost use Rattle.p2p_directory.specs.Private.Slots.{held_in, AreSlots};
-ghost use Rattle.p2p_directory.specs.Private.Serving.{has_slot_for, reserved_peer, IsAmong};
+ghost use Rattle.p2p_directory.specs.Private.Serving.{has_slot_for};
 ghost use Rattle.p2p_directory.specs.Refinement.{Refines};
 ghost use Rattle.p2p_directory.specs.Run.{settings, calls_of, world_left, AreAnswers};
 ghost use Rattle.p2p_directory.specs.Run.{bit_vec_in, Holds};
@@ -59,8 +59,8 @@ pub(crate) mod slots;
 ///
 /// # Cost
 ///
-/// That of the calls, and one sort of the peers of all `Dial` and `Listen` commands. Each grant and
-/// each `Release` takes a binary search among them.
+/// That of the calls, and for each `Dial`, `Listen` and `Release` a logarithm of the number of peers
+/// of all `Dial` and `Listen` commands.
 pub fn run<C: PublicKey>(
     alloc: Global,
     bootstrappers: Vec<(C, Ingress)>,
@@ -104,22 +104,25 @@ fn slots_for<C: PublicKey>(alloc: Global, commands: &[Command<C>]) -> Result<Slo
     ensures empty { IfOk result (λ slots. (q : C) → held_in C.cmp slots q ≡ None) }
     ensures ordered { IfOk result (AreSlots C.cmp) }
 {
-    let peers = reserved_peers(alloc, commands)?;
-    Slots::of_peers(alloc, peers)
-}
-
-// The peers, listed before a run starts, of which its commands may be granted a reservation.
-fn reserved_peers<C: PublicKey>(
-    alloc: Global,
-    commands: &[Command<C>],
-) -> Result<Vec<C>, AllocError>
-    ensures { IfOk result (λ peers. All (IsAmong peers.items) commands.now) }
-{
-    let mut peers = Vec::with_capacity(alloc, commands.len())?;
-    for command in commands {
-        if let Some(peer) = command.reserved_peer() {
-            peers.push_reserved(peer);
+    let mut slots = Slots::new(alloc);
+    match make_room(&mut slots, commands) {
+        Ok(()) => Ok(slots),
+        Err(refused) => {
+            slots.close();
+            Err(refused)
         }
     }
-    Ok(peers)
+}
+
+// Makes, before a run starts, an empty slot for each peer of which its commands may be granted a
+// reservation, if there is none.
+fn make_room<C: PublicKey>(slots: &mut Slots<C>, commands: &[Command<C>]) -> Result<(), AllocError>
+    ensures room { OnOk result (AllPass (has_slot_for C.cmp slots.new) commands.now) }
+    ensures held { (q : C) → held_in C.cmp slots.new q ≡ held_in C.cmp slots.old q }
+    ensures ordered { AreSlots C.cmp slots.old → AreSlots C.cmp slots.new }
+{
+    for command in commands {
+        slots.make_for(command)?;
+    }
+    Ok(())
 }

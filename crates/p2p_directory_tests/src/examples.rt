@@ -20,7 +20,7 @@ fn answer(node: &mut Node<TestKey>, frame: Bytes, now: Duration) -> Option<Bytes
         Received::Codec(_) | Received::Malformed | Received::Invalid(_) => None,
         // Out of memory. Nothing has changed: pass the frame in again later.
         Received::Memory => None,
-        Received::Data(_) | Received::Greeted | Received::Applied(_) => None,
+        Received::Data(_) | Received::Greeted(_) | Received::Applied(_) => None,
     }
 }
 

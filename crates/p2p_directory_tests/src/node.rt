@@ -28,7 +28,7 @@ fn long_frame(alloc: Global) -> Result<Bytes, Fail> {
 
 // Whether a tested node's message has all its bytes, and shares memory with the kept frame until it
 // is dropped.
-fn is_cut(received: Received, kept: &Bytes) -> bool {
+fn is_cut(received: Received<TestKey>, kept: &Bytes) -> bool {
     match received {
         Received::Data(data) => {
             let shared = data.message.len() == MEBIBYTE && !kept.is_unique();

@@ -1,5 +1,5 @@
 -- What stands in a room once parts were put into it one after the other.
-use Rattle.std.proofs.Common.{min, ◌*◌, ◌≡◌, ℕ, ◌+◌, ◌≤◌, ◌<◌, List, [], ◌∷◌, ◌++◌, length, take, drop, refl, sym, ap, ◌∙◌, subst, arith, add_assoc, get_or, zero, suc}
+use Rattle.std.proofs.Common.{◌*◌, ◌≡◌, ℕ, ◌+◌, ◌≤◌, ◌<◌, List, [], ◌∷◌, ◌++◌, length, take, drop, refl, sym, ap, ◌∙◌, subst, arith, add_assoc, get_or, zero, suc}
 use Rattle.std.specs.Prelude.{flat_map, map}
 use Rattle.std.proofs.lemmas.List.{length-take-le, length-append, append-nil, drop-drop}
 use Rattle.std.proofs.lemmas.List.Folds.{length-flat_map-take}

@@ -16,7 +16,8 @@ use Rattle.p2p_session.specs.Sessions.{at_moment, of_peer, of_peer_at, with_draw
 use Rattle.p2p_session.specs.declared.setup.Numbers.{Numbers}
 use Rattle.p2p_session.specs.Schemes.{Scheme}
 use Rattle.p2p_session.specs.Requests.{Request, Spelling, IsUnread, AreSpelledOnce, bool_at, with_bool, is_empty, when, request_of, of_nothing, of_bytes, of_number, of_moment, of_bytes_at, of_frame, of_draw, of_setup}
-use Rattle.p2p_session.specs.Requests.Request.{Numbered, Written, SetOf, Infos, Bits, Frame, Room, Retained, NextCooled, Held, Wanted, Check, Init}
+use Rattle.p2p_session.specs.Requests.Request.{Numbered, Written, SetOf, Infos, Bits, Frame, Looking, Init}
+use Rattle.p2p_session.specs.Sessions.Look.{Room, Retained, NextCooled, Held, Wanted, Check}
 
 -- a spelling with these parts
 abbrev pub spelling : ℕ → List ℕ → List ℕ → List ℕ → List ℕ → Spelling
@@ -159,12 +160,12 @@ module _ {C S : Type 0} (k : Scheme C S)
   spelling_of (Infos infos) = spelling 9 [] infos [] []
   spelling_of (Bits bits seconds nanos) = spelling 21 (seconds ∷ nanos ∷ []) bits [] []
   spelling_of (Frame frame seconds nanos verdicts) = spelling 31 (seconds ∷ nanos ∷ []) frame verdicts []
-  spelling_of Room = spelling 3 [] [] [] []
-  spelling_of Retained = spelling 26 [] [] [] []
-  spelling_of NextCooled = spelling 27 [] [] [] []
-  spelling_of (Held peer) = spelling 6 [] peer [] []
-  spelling_of (Wanted place) = spelling 29 (place ∷ []) [] [] []
-  spelling_of (Check frame seconds nanos) = spelling 30 (seconds ∷ nanos ∷ []) frame [] []
+  spelling_of (Looking Room) = spelling 3 [] [] [] []
+  spelling_of (Looking Retained) = spelling 26 [] [] [] []
+  spelling_of (Looking NextCooled) = spelling 27 [] [] [] []
+  spelling_of (Looking (Held peer)) = spelling 6 [] peer [] []
+  spelling_of (Looking (Wanted place)) = spelling 29 (place ∷ []) [] [] []
+  spelling_of (Looking (Check frame seconds nanos)) = spelling 30 (seconds ∷ nanos ∷ []) frame [] []
   spelling_of (Init n namespace bootstrappers myself) =
       spelling 1 (bit n.allow_private_ips ∷ bit n.allow_dns ∷ n.max_sets ∷ n.dial_fail_limit ∷ n.cooldown.0 ∷ n.cooldown.1
       ∷ n.block.0 ∷ n.block.1 ∷ n.max_bit_vec ∷ n.max_peers ∷ n.max_data_length ∷ n.peer_gossip_max_count
@@ -222,13 +223,13 @@ module _ {C S : Type 0} (k : Scheme C S)
   nothing_back : (number : ℕ) (r : Request C S) → of_nothing k number ≡ Some r → Back (spelling number [] [] [] []) r
   nothing_back number r =
       let P = λ (r : Request C S). Back (spelling number [] [] [] []) r in
-      pick P number 3 Room _ r (λ e. inl (cc)) (
+      pick P number 3 (Looking Room) _ r (λ e. inl (cc)) (
       pick P number 13 (Written (Ok (Ask NextUnblock))) _ r (λ e. inl (cc)) (
       pick P number 17 (Written (Ok (Ask LatestIndex))) _ r (λ e. inl (cc)) (
       pick P number 18 (Written (Ok (Ask LatestUpdate))) _ r (λ e. inl (cc)) (
       pick P number 19 (Written (Ok (Ask AllPeers))) _ r (λ e. inl (cc)) (
-      pick P number 26 Retained _ r (λ e. inl (cc)) (
-      pick P number 27 NextCooled _ r (λ e. inl (cc)) (
+      pick P number 26 (Looking Retained) _ r (λ e. inl (cc)) (
+      pick P number 27 (Looking NextCooled) _ r (λ e. inl (cc)) (
       pick P number 28 (Numbered (Ok (Ask NumberTracked))) _ r (λ e. inl (cc)) (
       nothing P r))))))))
 
@@ -236,7 +237,7 @@ module _ {C S : Type 0} (k : Scheme C S)
       Back (spelling number [] bytes [] []) r
   bytes_back number bytes are r =
       let P = λ (r : Request C S). Back (spelling number [] bytes [] []) r in
-      pick P number 6 (Held bytes) _ r (λ e. inl (cc)) (
+      pick P number 6 (Looking (Held bytes)) _ r (λ e. inl (cc)) (
       pick P number 8 (Numbered (of_peer k bytes (λ p. Release p))) _ r (λ e. peer_is (λ x. P (Numbered x)) (λ p. Release p) bytes are (λ p is. inl (cc)) (numbered (spelling number [] bytes [] []))) (
       pick P number 9 (Infos bytes) _ r (λ e. inl (cc)) (
       pick P number 15 (Numbered (of_peer k bytes (λ p. Ask (StatusOf p)))) _ r (λ e. peer_is (λ x. P (Numbered x)) (λ p. Ask (StatusOf p)) bytes are (λ p is. inl (cc)) (numbered (spelling number [] bytes [] []))) (
@@ -262,7 +263,7 @@ module _ {C S : Type 0} (k : Scheme C S)
       pick P number 21 (Bits bytes s n) _ r (λ e. inl (cc)) (
       pick P number 23 (Numbered (of_peer_at k bytes s n (λ p now. Ask (IsEligible p now)))) _ r (λ e. peer_time_is (λ x. P (Numbered x)) (λ p now. Ask (IsEligible p now)) bytes s n are (λ p t ep es en. inl (cc)) (numbered (spelling number (s ∷ n ∷ []) bytes [] []))) (
       pick P number 24 (Numbered (of_peer_at k bytes s n (λ p now. Ask (IsAcceptable p now)))) _ r (λ e. peer_time_is (λ x. P (Numbered x)) (λ p now. Ask (IsAcceptable p now)) bytes s n are (λ p t ep es en. inl (cc)) (numbered (spelling number (s ∷ n ∷ []) bytes [] []))) (
-      pick P number 30 (Check bytes s n) _ r (λ e. inl (cc)) (
+      pick P number 30 (Looking (Check bytes s n)) _ r (λ e. inl (cc)) (
       (λ h. let w = when_is (is_empty bytes) (of_moment k number s n) r h in
       subst (λ b. Back (spelling number (s ∷ n ∷ []) b [] []) r) (sym (empty bytes w.0)) (moment_back number s n r w.1)))))))
 
@@ -295,7 +296,7 @@ module _ {C S : Type 0} (k : Scheme C S)
       (subst (λ b. Back (spelling number (n ∷ []) [] b []) r) (sym (empty second v.1)) (
       pick P2 number 16 (Written (Ok (Ask (PeerSet n)))) _ r (λ e. inl (cc)) (
       pick P2 number 22 (Written (Ok (Ask (BitsAt n)))) _ r (λ e. inl (cc)) (
-      pick P2 number 29 (Wanted n) _ r (λ e. inl (cc)) (
+      pick P2 number 29 (Looking (Wanted n)) _ r (λ e. inl (cc)) (
       nothing P2 r))) w.1))))
     where
       connect : number ≡ 7 → when (is_empty second) (with_bool (bool_at n)

@@ -1,20 +1,16 @@
 -- What is answered to a reply: a number, or bytes at the front of the host's room.
-use Rattle.std.specs.Prelude.{◌≡◌, ◌⊎◌, ℕ, ◌+◌, ◌/◌, ◌%◌, ◌^◌, min, Bool, true, false, nat_le}
+use Rattle.std.specs.Prelude.{◌≡◌, ℕ, ◌+◌, ◌/◌, ◌%◌, ◌^◌, min, Bool, true, false, nat_le}
 use Rattle.std.specs.Prelude.{if◌then◌else◌, List, [], ◌∷◌, ◌++◌, take, drop, length, flat_map}
-use Rattle.std.specs.Prelude.{Option, Some, None, option_map}
+use Rattle.std.specs.Prelude.{Option, Some, None}
 use Rattle.std.specs.Int.{w32, w64, to_be_bytes}
-use Rattle.std.specs.Duration.{as_nanos}
 use Rattle.p2p_discovery.specs.declared.discovery.Info.{Info}
-use Rattle.p2p_discovery.specs.Info.{info_spelling, infos_spelling}
+use Rattle.p2p_discovery.specs.Info.{info_spelling}
 use Rattle.p2p_discovery.specs.Judgement.{signed_bytes}
-use Rattle.p2p_discovery.specs.BitVec.{bit_vec_spelling}
 use Rattle.p2p_discovery.specs.Varint.{varint32}
 use Rattle.p2p_tracker.specs.declared.directory.PeerSetUpdate.{PeerSetUpdate}
 use Rattle.p2p_tracker.specs.declared.directory.TrackedPeers.{TrackedPeers}
 use Rattle.p2p_tracker.specs.declared.record.Status.{Status}
 use Rattle.p2p_tracker.specs.declared.record.Status.TheVariants.{Inert, Reserved, Active}
-use Rattle.p2p_directory.specs.declared.run.commands.Reply.{Reply}
-use Rattle.p2p_directory.specs.declared.run.commands.Reply.TheVariants as reply
 use Rattle.p2p_session.specs.declared.answer.Values.{Values}
 use Rattle.p2p_session.specs.declared.answer.Values.TheVariants as values
 use Rattle.p2p_session.specs.declared.refusal.Refusal.{Refusal}
@@ -96,6 +92,7 @@ module _ {C S : Type 0} (k : Scheme C S) where
   abbrev pub values_bytes : Values C S → List ℕ
   values_bytes (values.Bytes bytes) = bytes.now
   values_bytes (values.Count n) = varint32 n
+  values_bytes (values.Key key) = k.key.spelled key.now
   values_bytes (values.Keys keys) = keys_bytes keys.now
   values_bytes (values.Info info) = info_bytes info.now
   values_bytes (values.Infos infos) = flat_map info_bytes infos.now

@@ -1,6 +1,6 @@
 -- What a session does with frames, and what it tells of reservations.
-use Rattle.std.specs.Prelude.{◌≡◌, ◌⊎◌, ℕ, ◌+◌, ◌-◌, ◌<◌, ◌≤◌, Bool, true, not, ◌==◌, List, [], ◌∷◌}
-use Rattle.std.specs.Prelude.{max, ◌++◌, length, take, drop, map, flat_map, Option, Some, None, Result, Ok, Err}
+use Rattle.std.specs.Prelude.{◌≡◌, ◌⊎◌, ℕ, ◌+◌, ◌<◌, ◌≤◌, Bool, true, not, ◌==◌, List, [], ◌∷◌}
+use Rattle.std.specs.Prelude.{max, ◌++◌, length, map, flat_map, Option, Some, None, Result, Ok, Err}
 use Rattle.p2p_discovery.specs.declared.codec.error.CodecError.{CodecError}
 use Rattle.p2p_discovery.specs.declared.codec.error.CodecError.TheVariants as fault
 use Rattle.p2p_discovery.specs.declared.codec.error.What.TheVariants as what
@@ -25,8 +25,6 @@ use Rattle.p2p_session.specs.declared.refusal.Refusal.TheVariants as refusal
 use Rattle.p2p_session.specs.Schemes.{Scheme, wire}
 use Rattle.p2p_session.specs.Answers.{Answer, refused, number, asked_bytes, Tells, Refuses}
 use Rattle.p2p_session.specs.Answers.Answer.{Bytes}
-use Rattle.p2p_session.specs.Given.{moment_at}
-use Rattle.p2p_session.specs.Views.{HasNone}
 
 -- whom a reservation is for: an inbound peer, or an ingress that is dialled
 abbrev pub held_bytes : {C S : Type 0} → Metadata C S → List ℕ
@@ -59,21 +57,6 @@ error_bytes error.SynchronyBound = 3 ∷ []
 abbrev pub verdicts_in : List ℕ → List Bool
 verdicts_in bytes = map (λ b. not (b == 0)) bytes
 
--- the answer to a frame that is the greeting of this key, if it is one. A message is at the end of
--- its frame: its channel and its length are answered.
-abbrev pub received_answer : List ℕ → Received → Answer
-received_answer key (received.Data d) = Bytes (0 ∷ (number d.channel ++ number (length d.message)))
-received_answer key received.Greeted = Bytes (1 ∷ key)
-received_answer key (received.Reply frame) = Bytes (2 ∷ frame)
-received_answer key (received.Applied count) = Bytes (3 ∷ number count)
-received_answer key (received.Codec fault) = Bytes (4 ∷ fault_bytes fault)
-received_answer key received.Malformed = Bytes (5 ∷ [])
-received_answer key (received.Invalid error) = Bytes (6 ∷ error_bytes error)
-received_answer key received.Memory = refused refusal.Memory
-
-abbrev pub TellsReceived : List ℕ → Received → List ℕ → List ℕ → ℕ → Type 0
-TellsReceived key r = Tells (received_answer key r)
-
 -- the infos of a payload whose signatures decide
 abbrev pub to_ask : {C S : Type 0} → Judge C S → ℕ → Payload C S → List (Info C S)
 to_ask judge now (said.Greeting i) = judged_before judge now (i ∷ [])
@@ -90,25 +73,27 @@ module _ {C S : Type 0} (k : Scheme C S) where
 
   -- ---- answers to frames
 
-  -- whose greeting a payload is, by the bytes of the key; of any other payload nobody's
-  abbrev pub greeter_of : Payload C S → List ℕ
-  greeter_of (said.Greeting i) = k.key.spelled i.public_key
-  greeter_of _ = []
-
-  -- .. a frame is, by what comes of reading it
-  abbrev pub greeter_in : Result (Payload C S × List ℕ) CodecError → List ℕ
-  greeter_in (Ok x) = greeter_of x.0
-  greeter_in (Err fault) = []
+  -- the answer to a frame. A message is at the end of its frame: its channel and its length are
+  -- answered.
+  abbrev pub received_answer : Received C S → Answer
+  received_answer (received.Data d) = Bytes (0 ∷ (number d.channel ++ number (length d.message)))
+  received_answer (received.Greeted key) = Bytes (1 ∷ k.key.spelled key)
+  received_answer (received.Reply frame) = Bytes (2 ∷ frame)
+  received_answer (received.Applied count) = Bytes (3 ∷ number count)
+  received_answer (received.Codec fault) = Bytes (4 ∷ fault_bytes fault)
+  received_answer received.Malformed = Bytes (5 ∷ [])
+  received_answer (received.Invalid error) = Bytes (6 ∷ error_bytes error)
+  received_answer received.Memory = refused refusal.Memory
 
   -- the node took the frame by these verdicts, wherever the calls accepted before led
   pub record Hears (verdicts : List Bool) (frame : List ℕ) (now : ℕ) (v v2 : NodeView C S)
-      (r : Received) : Type 0 where
+      (r : Received C S) : Type 0 where
     pub seen : AnswersFrameBy k.key.cmp (wire k) verdicts frame now r v v2
     pub received : IsReceivedBy k.key.cmp (wire k) verdicts frame now r v v2
 
   -- .. at a moment that was read
   abbrev pub HearsAt : List Bool → List ℕ → Result ℕ Refusal → NodeView C S → NodeView C S →
-      Received → Type 0
+      Received C S → Type 0
   HearsAt verdicts frame (Ok t) v v2 r = Hears verdicts frame t v v2 r
   HearsAt verdicts frame (Err why) v v2 r = ⊥
 
@@ -130,7 +115,7 @@ module _ {C S : Type 0} (k : Scheme C S) where
   -- what holds where a frame was taken: the room has that answer, and there are as many
   -- verdicts as infos, unless memory was refused
   pub record IsTaken (v : NodeView C S) (verdicts : List Bool) (frame : List ℕ) (room : ℕ)
-      (r : Received) : Type 0 where
+      (r : Received C S) : Type 0 where
     pub fits : applied_size ≤ room
     pub counted : are_miscounted (wire k) (standing_of k.key.cmp (wire k) v) frame verdicts ≡ true →
         IsWantOfMemory r
@@ -141,16 +126,8 @@ module _ {C S : Type 0} (k : Scheme C S) where
   ReceivesAt verdicts frame now out out2 v v2 n =
       ((why : Refusal) × MayRefuse v verdicts frame now (length out) why × (v2 ≡ v)
       × Refuses why out out2 n)
-      ⊎ ((r : Received) × HearsAt verdicts frame now v v2 r
-      × IsTaken v verdicts frame (length out) r
-      × TellsReceived (greeter_in (whole ((wire k).reading v.limits) frame).outcome) r out out2 n)
-
-  abbrev pub ReceivesOf : List ℕ → ℕ → ℕ → List ℕ → List ℕ → List ℕ → Option (NodeView C S) →
-      Option (NodeView C S) → ℕ → Type 0
-  ReceivesOf frame seconds nanos verdicts out out2 None o n = HasNone o out out2 n
-  ReceivesOf frame seconds nanos verdicts out out2 (Some v) None n = ⊥
-  ReceivesOf frame seconds nanos verdicts out out2 (Some v) (Some v2) n =
-      ReceivesAt (verdicts_in verdicts) frame (moment_at seconds nanos) out out2 v v2 n
+      ⊎ ((r : Received C S) × HearsAt verdicts frame now v v2 r
+      × IsTaken v verdicts frame (length out) r × Tells (received_answer r) out out2 n)
 
   -- ---- what has to be verified
 
@@ -166,19 +143,3 @@ module _ {C S : Type 0} (k : Scheme C S) where
       ⊎ Tells (Bytes (check_bytes (judge_of k.key.cmp (wire k).verifies v.verifier) now
       (whole ((wire k).reading v.limits) frame).outcome)) out out2 n
   ChecksAt v frame (Err why) out out2 n = Refuses why out out2 n
-
-  -- ---- where the key of a greeting is
-
-  -- the bytes of a key, behind which a signature ends the frame
-  abbrev pub key_at_end : List ℕ → List ℕ
-  key_at_end frame = take k.key.SIZE (drop (length frame - (k.key.SIZE + k.signature.SIZE)) frame)
-
-  -- a frame that was accepted as a greeting has room for both
-  abbrev pub HasKey : Received → List ℕ → Type 0
-  HasKey received.Greeted frame = k.key.SIZE + k.signature.SIZE ≤ length frame
-  HasKey _ frame = Unit {0}
-
-  -- .. and the key is there
-  abbrev pub IsNamedAtEnd : Received → List ℕ → List ℕ → Type 0
-  IsNamedAtEnd received.Greeted frame key = key ≡ key_at_end frame
-  IsNamedAtEnd _ frame key = Unit {0}

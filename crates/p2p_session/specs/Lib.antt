@@ -5,7 +5,6 @@ pub mod Firsts
 pub mod Keys
 pub mod Answers
 pub mod Given
-pub mod Views
 pub mod Frames
 pub mod Sessions
 pub mod Requests

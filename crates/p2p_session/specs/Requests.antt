@@ -14,10 +14,10 @@ use Rattle.p2p_session.specs.Schemes.{Scheme}
 use Rattle.p2p_session.specs.declared.refusal.Refusal.TheVariants as refusal
 use Rattle.p2p_session.specs.Answers.{Refuses}
 use Rattle.p2p_session.specs.Given.{Asked, numbers_of}
-use Rattle.p2p_session.specs.Sessions.{at_moment, of_peer, of_peer_at, with_draw, Answers, Writes}
-use Rattle.p2p_session.specs.Sessions.{Tracks, UpdatesPeers, TellsInfos, Receives, InitsBy}
-use Rattle.p2p_session.specs.Sessions.{TellsRoom, TellsReservation, TellsRetained, TellsNextCooled}
-use Rattle.p2p_session.specs.Sessions.{Asks, Checks}
+use Rattle.p2p_session.specs.Sessions.{at_moment, of_peer, of_peer_at, with_draw, Serves, OfNode}
+use Rattle.p2p_session.specs.Sessions.{Tracks, ServesRead, updated_by, infos_for, Receives, Looks}
+use Rattle.p2p_session.specs.Sessions.{InitsBy, Look}
+use Rattle.p2p_session.specs.Sessions.Look.{Room, Retained, NextCooled, Held, Wanted, Check}
 
 -- what is asked for
 pub data Request (C S : Type 0) : Type 0 where
@@ -32,15 +32,8 @@ pub data Request (C S : Type 0) : Type 0 where
   Bits : (bits : List ℕ) (seconds nanos : ℕ) → Request C S
   -- a frame with its verdicts
   Frame : (frame : List ℕ) (seconds nanos : ℕ) (verdicts : List ℕ) → Request C S
-  -- a look at the node: the room for a set's answer, how many sets are retained, the next cooldown
-  -- to be forgotten, what is held of a peer, the frame that asks for infos, and what has to be
-  -- verified of a frame
-  Room : Request C S
-  Retained : Request C S
-  NextCooled : Request C S
-  Held : (peer : List ℕ) → Request C S
-  Wanted : (place : ℕ) → Request C S
-  Check : (frame : List ℕ) (seconds nanos : ℕ) → Request C S
+  -- a look at the node
+  Looking : (look : Look) → Request C S
   -- a node is made
   Init : (numbers : Numbers) (namespace bootstrappers myself : List ℕ) → Request C S
 
@@ -77,20 +70,20 @@ module _ {C S : Type 0} (k : Scheme C S) where
   -- A table with a line for each call, by its number in logs. These take nothing:
   abbrev pub of_nothing : ℕ → Option (Request C S)
   of_nothing number =
-      if number == 3 then Some Room
+      if number == 3 then Some (Looking Room)
       else if number == 13 then Some (Written (Ok (Ask NextUnblock)))
       else if number == 17 then Some (Written (Ok (Ask LatestIndex)))
       else if number == 18 then Some (Written (Ok (Ask LatestUpdate)))
       else if number == 19 then Some (Written (Ok (Ask AllPeers)))
-      else if number == 26 then Some Retained
-      else if number == 27 then Some NextCooled
+      else if number == 26 then Some (Looking Retained)
+      else if number == 27 then Some (Looking NextCooled)
       else if number == 28 then Some (Numbered (Ok (Ask NumberTracked)))
       else None
 
   -- .. bytes, or nothing:
   abbrev pub of_bytes : ℕ → List ℕ → Option (Request C S)
   of_bytes number bytes =
-      if number == 6 then Some (Held bytes)
+      if number == 6 then Some (Looking (Held bytes))
       else if number == 8 then Some (Numbered (of_peer k bytes (λ p. Release p)))
       else if number == 9 then Some (Infos bytes)
       else if number == 15 then Some (Numbered (of_peer k bytes (λ p. Ask (StatusOf p))))
@@ -106,7 +99,7 @@ module _ {C S : Type 0} (k : Scheme C S) where
       else when (is_empty first && is_empty second) (
       if number == 16 then Some (Written (Ok (Ask (PeerSet n))))
       else if number == 22 then Some (Written (Ok (Ask (BitsAt n))))
-      else if number == 29 then Some (Wanted n)
+      else if number == 29 then Some (Looking (Wanted n))
       else None)
 
   -- .. a moment:
@@ -129,7 +122,7 @@ module _ {C S : Type 0} (k : Scheme C S) where
       Some (Numbered (of_peer_at k bytes seconds nanos (λ p now. Ask (IsEligible p now))))
       else if number == 24 then
       Some (Numbered (of_peer_at k bytes seconds nanos (λ p now. Ask (IsAcceptable p now))))
-      else if number == 30 then Some (Check bytes seconds nanos)
+      else if number == 30 then Some (Looking (Check bytes seconds nanos))
       else when (is_empty bytes) (of_moment number seconds nanos)
 
   -- .. a moment, and a frame with its verdicts, or as above:
@@ -187,27 +180,20 @@ module _ {C S : Type 0} (k : Scheme C S) where
   ServesRequest None out out2 before after n =
       (after ≡ before) × Refuses refusal.BadCall out out2 n
   ServesRequest (Some (Numbered given)) out out2 before after n =
-      (out2 ≡ out) × Answers k given before after n
+      (out2 ≡ out) × Serves k given [] [] before.node after.node n
   ServesRequest (Some (Written given)) out out2 before after n =
-      Writes k given out out2 before after n
+      Serves k given out out2 before.node after.node n
   ServesRequest (Some (SetOf index primary secondary)) out out2 before after n =
-      Tracks k index primary secondary out out2 before after n
+      OfNode (λ v v2. Tracks k index primary secondary out out2 v v2 n) out out2
+      before.node after.node n
   ServesRequest (Some (Infos infos)) out out2 before after n =
-      (out2 ≡ out) × UpdatesPeers k infos before after n
+      (out2 ≡ out) × ServesRead k (updated_by k infos) [] [] before.node after.node n
   ServesRequest (Some (Bits bits seconds nanos)) out out2 before after n =
-      TellsInfos k bits seconds nanos out out2 before after n
+      ServesRead k (infos_for k bits seconds nanos) out out2 before.node after.node n
   ServesRequest (Some (Frame frame seconds nanos verdicts)) out out2 before after n =
-      Receives k frame seconds nanos verdicts out out2 before after n
-  ServesRequest (Some Room) out out2 before after n = (out2 ≡ out) × TellsRoom k before after n
-  ServesRequest (Some Retained) out out2 before after n =
-      (out2 ≡ out) × TellsRetained k before after n
-  ServesRequest (Some NextCooled) out out2 before after n =
-      TellsNextCooled k out out2 before after n
-  ServesRequest (Some (Held peer)) out out2 before after n =
-      TellsReservation k peer out out2 before after n
-  ServesRequest (Some (Wanted place)) out out2 before after n = Asks k place out out2 before after n
-  ServesRequest (Some (Check frame seconds nanos)) out out2 before after n =
-      Checks k frame seconds nanos out out2 before after n
+      Receives k frame seconds nanos verdicts out out2 before.node after.node n
+  ServesRequest (Some (Looking look)) out out2 before after n =
+      Looks k look out out2 before.node after.node n
   ServesRequest (Some (Init numbers namespace bootstrappers myself)) out out2 before after n =
       (out2 ≡ out) × InitsBy k numbers namespace bootstrappers myself before after n
 

@@ -1,15 +1,12 @@
--- What the calls of a session do.
+-- What a session does for a call, for a look at its node, and for a frame.
 use Rattle.std.specs.Prelude.{◌≡◌, ◌⊎◌, ℕ, ◌*◌, ◌<◌, ◌≤◌, ◌^◌, min, Bool, List, [], length, Option}
 use Rattle.std.specs.Prelude.{Some, None, Ok, Err, true, false, is_some, option_map}
 use Rattle.std.specs.Duration.{as_nanos}
 use Rattle.p2p_discovery.specs.BitVec.{bit_vec_spelling}
 use Rattle.p2p_discovery.specs.Info.{infos_spelling}
 use Rattle.p2p_tracker.specs.Calls.{Call}
-use Rattle.p2p_tracker.specs.Calls.Call.{Dial, Listen, Connect, Release, Update, Block}
-use Rattle.p2p_tracker.specs.Calls.Call.{UnblockExpired, ForgetCooled, Ask}
-use Rattle.p2p_tracker.specs.Calls.Question.{StatusOf, NumberTracked, NextUnblock, BlockedAt}
-use Rattle.p2p_tracker.specs.Calls.Question.{PeerSet, LatestIndex, AllPeers, LatestUpdate, InfoOf}
-use Rattle.p2p_tracker.specs.Calls.Question.{InfosFor, BitsAt, IsEligible, IsAcceptable, DialableAt}
+use Rattle.p2p_tracker.specs.Calls.Call.{Update, Ask}
+use Rattle.p2p_tracker.specs.Calls.Question.{InfosFor}
 use Rattle.p2p_tracker.specs.Directory.{other_keys, dial_moment_in}
 use Rattle.p2p_tracker.specs.Lists.{IsLeastOf}
 use Rattle.p2p_directory.specs.Run.{was_made}
@@ -23,8 +20,7 @@ use Rattle.p2p_session.specs.declared.refusal.Refusal.{Refusal}
 use Rattle.p2p_session.specs.declared.refusal.Refusal.TheVariants as refusal
 use Rattle.p2p_session.specs.declared.session.Session.{Session}
 use Rattle.p2p_session.specs.Schemes.{Scheme, wire}
-use Rattle.p2p_session.specs.Views.{HasNone}
-use Rattle.p2p_session.specs.Frames.{TellsHeldOf, ReceivesOf, ChecksAt}
+use Rattle.p2p_session.specs.Frames.{TellsHeldOf, ReceivesAt, ChecksAt, verdicts_in}
 use Rattle.p2p_session.specs.Answers.{Answer, Tells, Refuses, optional, moment_bytes, keys_bytes}
 use Rattle.p2p_session.specs.Answers.{truth, refused, number, peers_bytes, update_bytes, info_bytes}
 use Rattle.p2p_session.specs.Answers.{dialable_bytes, status_number}
@@ -39,14 +35,31 @@ use Rattle.p2p_directory.specs.Received.{ask_frame_at}
 abbrev pub IsFresh : {C S : Type 0} → Session C S → Type 0
 IsFresh it = it.node ≡ None
 
--- why a call without room is refused
-abbrev pub room_refusal : {C S : Type 0} → Option (NodeView C S) → ℕ
-room_refusal None = number_of refusal.NoNode
-room_refusal (Some v) = number_of refusal.NoRoom
-
 -- what is answered fits the room, or is no length: nothing of it is lost
 abbrev pub Fits : List ℕ → ℕ → Type 0
 Fits out n = (n ≤ length out) ⊎ (2 ^ 63 < n)
+
+-- a node does this; where there is none, that is answered, and none is made
+abbrev pub OfNode : {C S : Type 0} → (NodeView C S → NodeView C S → Type 0) → List ℕ → List ℕ →
+    Option (NodeView C S) → Option (NodeView C S) → ℕ → Type 0
+OfNode Does out out2 None o n = (o ≡ None) × Refuses refusal.NoNode out out2 n
+OfNode Does out out2 (Some v) None n = ⊥
+OfNode Does out out2 (Some v) (Some v2) n = Does v v2
+
+-- a look at the node
+pub data Look : Type 0 where
+  -- how many bytes the keys of all peers with a record have
+  Room : Look
+  -- how many sets are retained
+  Retained : Look
+  -- when the next cooldown may be forgotten
+  NextCooled : Look
+  -- what is held of a peer
+  Held : (peer : List ℕ) → Look
+  -- the frame that asks for infos
+  Wanted : (place : ℕ) → Look
+  -- what has to be verified of a frame
+  Check : (frame : List ℕ) (seconds nanos : ℕ) → Look
 
 -- a call at a moment
 abbrev pub at_moment : {C S : Type 0} → ℕ → ℕ → (ℕ → Call C S) → Asked C S
@@ -106,20 +119,14 @@ module _ {C S : Type 0} (k : Scheme C S) where
     pub told : TellsReply r out out2 n
 
   -- the call that was asked for is made, or why it can't be read is answered
+  abbrev pub Makes : Asked C S → List ℕ → List ℕ → NodeView C S → NodeView C S → ℕ → Type 0
+  Makes (Ok call) out out2 v v2 n = (r : Reply C S) × Steps call r v v2 out out2 n
+  Makes (Err why) out out2 v v2 n = (v2 ≡ v) × Refuses why out out2 n
+
+  -- .. by the node of a session
   abbrev pub Serves : Asked C S → List ℕ → List ℕ → Option (NodeView C S) → Option (NodeView C S) →
       ℕ → Type 0
-  Serves given out out2 None o n = HasNone o out out2 n
-  Serves (Err why) out out2 (Some v) o n = (o ≡ Some v) × Refuses why out out2 n
-  Serves (Ok call) out out2 (Some v) None n = ⊥
-  Serves (Ok call) out out2 (Some v) (Some v2) n =
-      (r : Reply C S) × Steps call r v v2 out out2 n
-
-  -- .. with nothing to write
-  abbrev pub Answers : Asked C S → Session C S → Session C S → ℕ → Type 0
-  Answers given before after n = Serves given [] [] before.node after.node n
-
-  abbrev pub Writes : Asked C S → List ℕ → List ℕ → Session C S → Session C S → ℕ → Type 0
-  Writes given out out2 before after n = Serves given out out2 before.node after.node n
+  Serves given out out2 o o2 n = OfNode (λ v v2. Makes given out out2 v v2 n) out out2 o o2 n
 
   -- ---- each call
 
@@ -134,80 +141,32 @@ module _ {C S : Type 0} (k : Scheme C S) where
       and_then (key_at k peer) (λ p. and_then (moment_at seconds nanos) (λ now.
       at_moment draw_seconds draw_nanos (f p now)))
 
-  -- how many sets are retained; nothing changes
-  abbrev pub TellsRetained : Session C S → Session C S → ℕ → Type 0
-  TellsRetained before after n = (after ≡ before) × RetainedOf before.node
-    where
-      RetainedOf : Option (NodeView C S) → Type 0
-      RetainedOf None = n ≡ number_of refusal.NoNode
-      RetainedOf (Some v) = n ≡ length v.directory.sets
-
-  -- the least of the dial moments that are kept, if any is
-  abbrev pub TellsNextOf : NodeView C S → List ℕ → List ℕ → ℕ → Type 0
-  TellsNextOf v out out2 n = (next : Option ℕ) × IsLeastOf (dial_moment_in k.key.cmp v.directory) next
-      × Tells (optional moment_bytes next) out out2 n
-
-  -- .. and nothing changes
-  abbrev pub TellsNextCooled : List ℕ → List ℕ → Session C S → Session C S → ℕ → Type 0
-  TellsNextCooled out out2 before after n = (after ≡ before) × NextOf before.node
-    where
-      NextOf : Option (NodeView C S) → Type 0
-      NextOf None = Refuses refusal.NoNode out out2 n
-      NextOf (Some v) = TellsNextOf v out out2 n
-
   -- how many bytes the keys of all peers with a record have
   abbrev pub room_for : NodeView C S → ℕ
   room_for v = min (length (other_keys v.directory.records) * k.key.SIZE) (2 ^ 63)
 
-  abbrev pub TellsRoom : Session C S → Session C S → ℕ → Type 0
-  TellsRoom before after n = (after ≡ before) × IsRoom before.node n
-    where
-      IsRoom : Option (NodeView C S) → ℕ → Type 0
-      IsRoom None n = n ≡ number_of refusal.NoNode
-      IsRoom (Some v) n = n ≡ room_for v
-
-  -- the call, as it was read, is made
-  abbrev pub ServesRead : (Asked C S → Type 0) → List ℕ → List ℕ → Session C S → Session C S → ℕ →
+  -- a set is taken, as it was read, and its answer is whole; where the room is shorter than the keys
+  -- of all peers with a record it isn't
+  abbrev pub Tracks : ℕ → List ℕ → List ℕ → List ℕ → List ℕ → NodeView C S → NodeView C S → ℕ →
       Type 0
-  ServesRead IsGiven out out2 before after n =
-      (given : Asked C S) × IsGiven given × Writes given out out2 before after n
+  Tracks index primary secondary out out2 v v2 n =
+      ((length out < room_for v) × (v2 ≡ v) × Refuses refusal.NoRoom out out2 n)
+      ⊎ ((room_for v ≤ length out) × Fits out n × ((given : Asked C S)
+      × IsTrackRead k index primary secondary given × Makes given out out2 v v2 n))
 
-  -- the room has the keys of all peers with a record
-  abbrev pub HasRoom : Option (NodeView C S) → List ℕ → Type 0
-  HasRoom None out = Unit {0}
-  HasRoom (Some v) out = room_for v ≤ length out
+  -- this call is made, unless memory to read its arguments was refused
+  abbrev pub ServesRead : Asked C S → List ℕ → List ℕ → Option (NodeView C S) →
+      Option (NodeView C S) → ℕ → Type 0
+  ServesRead it out out2 o o2 n =
+      (given : Asked C S) × IsRead given it × Serves given out out2 o o2 n
 
-  -- a set is taken, and its answer is whole; where the room is shorter than the keys of all peers with
-  -- a record it isn't
-  abbrev pub Tracks : ℕ → List ℕ → List ℕ → List ℕ → List ℕ → Session C S → Session C S → ℕ → Type 0
-  Tracks index primary secondary out out2 before after n =
-      ((n ≡ room_refusal before.node) × (after ≡ before) × (out2 ≡ out) × LacksRoom before.node)
-      ⊎ (ServesRead (IsTrackRead k index primary secondary) out out2 before after n
-      × HasRoom before.node out × Fits out n)
-    where
-      LacksRoom : Option (NodeView C S) → Type 0
-      LacksRoom None = Unit {0}
-      LacksRoom (Some v) = length out < room_for v
+  -- infos that are offered to their peers, and bits that are answered by infos
+  abbrev pub updated_by : List ℕ → Asked C S
+  updated_by infos = and_then (infos_spelled k infos) (λ is. Ok (Update is))
 
-  abbrev pub UpdatesPeers : List ℕ → Session C S → Session C S → ℕ → Type 0
-  UpdatesPeers infos = ServesRead
-      (λ given. IsRead given (and_then (infos_spelled k infos) (λ is. Ok (Update is)))) [] []
-
-  abbrev pub TellsInfos : List ℕ → ℕ → ℕ → List ℕ → List ℕ → Session C S → Session C S → ℕ → Type 0
-  TellsInfos bits seconds nanos out out2 before after n = ServesRead (λ given. IsRead given
-      (and_then (bits_spelled bits) (λ v.
-      at_moment seconds nanos (λ now. Ask (InfosFor v.index v.bits now)))))
-      out out2 before after n
-
-  -- the frame of the bits of the set at a place, or want of memory; nothing changes
-  abbrev pub Asks : ℕ → List ℕ → List ℕ → Session C S → Session C S → ℕ → Type 0
-  Asks place out out2 before after n = (after ≡ before) × AskedOf before.node
-    where
-      AskedOf : Option (NodeView C S) → Type 0
-      AskedOf None = Refuses refusal.NoNode out out2 n
-      AskedOf (Some v) = let frame = ask_frame_at (wire k) (standing_of k.key.cmp (wire k) v) place in
-          Tells (optional (λ bytes. bytes) frame) out out2 n
-          ⊎ (Refuses refusal.Memory out out2 n × (is_some frame ≡ true))
+  abbrev pub infos_for : List ℕ → ℕ → ℕ → Asked C S
+  infos_for bits seconds nanos = and_then (bits_spelled bits) (λ v.
+      at_moment seconds nanos (λ now. Ask (InfosFor v.index v.bits now)))
 
   -- ---- a node is made
 
@@ -230,26 +189,32 @@ module _ {C S : Type 0} (k : Scheme C S) where
     pub refused : ¬ (n ≡ 1) → (after.node ≡ before.node) × ((why : Refusal)
         × IsInitRefusal numbers bootstrappers myself before.node why × (n ≡ number_of why))
 
-  -- ---- reservations and frames
+  -- ---- looks and frames
 
-  -- what is held of the peer; nothing changes
-  abbrev pub TellsReservation : List ℕ → List ℕ → List ℕ → Session C S → Session C S → ℕ → Type 0
-  TellsReservation peer out out2 before after n = (after ≡ before) × HeldOf before.node
-    where
-      HeldOf : Option (NodeView C S) → Type 0
-      HeldOf None = Refuses refusal.NoNode out out2 n
-      HeldOf (Some v) = TellsHeldOf k v (key_at k peer) out out2 n
+  -- what a look tells
+  abbrev pub Shows : Look → NodeView C S → List ℕ → List ℕ → ℕ → Type 0
+  Shows Room v out out2 n = Tells (Is (room_for v)) out out2 n
+  Shows Retained v out out2 n = Tells (Is (length v.directory.sets)) out out2 n
+  Shows NextCooled v out out2 n = (next : Option ℕ)
+      × IsLeastOf (dial_moment_in k.key.cmp v.directory) next
+      × Tells (optional moment_bytes next) out out2 n
+  Shows (Held peer) v out out2 n = TellsHeldOf k v (key_at k peer) out out2 n
+  Shows (Wanted place) v out out2 n =
+      let frame = ask_frame_at (wire k) (standing_of k.key.cmp (wire k) v) place in
+      Tells (optional (λ bytes. bytes) frame) out out2 n
+      ⊎ (Refuses refusal.Memory out out2 n × (is_some frame ≡ true))
+  Shows (Check frame seconds nanos) v out out2 n =
+      ChecksAt k v frame (moment_at seconds nanos) out out2 n
 
-  -- what has to be verified of a frame; nothing changes
-  abbrev pub Checks : List ℕ → ℕ → ℕ → List ℕ → List ℕ → Session C S → Session C S → ℕ → Type 0
-  Checks frame seconds nanos out out2 before after n = (after ≡ before) × ChecksOf before.node
-    where
-      ChecksOf : Option (NodeView C S) → Type 0
-      ChecksOf None = Refuses refusal.NoNode out out2 n
-      ChecksOf (Some v) = ChecksAt k v frame (moment_at seconds nanos) out out2 n
+  -- .. and nothing changes
+  abbrev pub Looks : Look → List ℕ → List ℕ → Option (NodeView C S) → Option (NodeView C S) → ℕ →
+      Type 0
+  Looks look out out2 o o2 n =
+      OfNode (λ v v2. (v2 ≡ v) × Shows look v out out2 n) out out2 o o2 n
 
   -- a frame is taken by what was said of the signatures of its infos
-  abbrev pub Receives : List ℕ → ℕ → ℕ → List ℕ → List ℕ → List ℕ → Session C S → Session C S → ℕ →
-      Type 0
-  Receives frame seconds nanos verdicts out out2 before after n =
-      ReceivesOf k frame seconds nanos verdicts out out2 before.node after.node n
+  abbrev pub Receives : List ℕ → ℕ → ℕ → List ℕ → List ℕ → List ℕ → Option (NodeView C S) →
+      Option (NodeView C S) → ℕ → Type 0
+  Receives frame seconds nanos verdicts out out2 o o2 n = OfNode (λ v v2.
+      ReceivesAt k (verdicts_in verdicts) frame (moment_at seconds nanos) out out2 v v2 n)
+      out out2 o o2 n

@@ -97,6 +97,8 @@ pub enum Values<'a, C: PublicKey> {
     Bytes(&'a [u8]),
     /// A number of values, as a list begins with it.
     Count(u32),
+    /// This key.
+    Key(&'a C),
     /// Keys, one after the other.
     Keys(&'a [C]),
     /// This info, encoded.
@@ -120,6 +122,7 @@ impl<C: PublicKey> Part for Values<'_, C> {
         match self {
             Values::Bytes(bytes) => (bytes.len() as u64).min(LONGEST),
             Values::Count(count) => count.encode_size() as u64,
+            Values::Key(_) => C::SIZE as u64,
             Values::Keys(keys) => size_of_keys::<C>(keys.len()),
             Values::Info(info) => info.encode_size() as u64,
             Values::Infos(infos) => size_of_infos(infos),
@@ -132,6 +135,7 @@ impl<C: PublicKey> Part for Values<'_, C> {
         match self {
             Values::Bytes(bytes) => put(out, at, bytes),
             Values::Count(count) => put_varint(out, at, u64::from(*count)),
+            Values::Key(key) => put_fixed(out, at, *key),
             Values::Keys(keys) => put_keys(out, at, keys),
             Values::Info(info) => put_info(out, at, info),
             Values::Infos(infos) => put_infos(out, at, infos),

@@ -18,10 +18,9 @@ ghost use Rattle.std.specs.Prelude.{take, flat_map, Ok, true};
 ghost use Rattle.p2p_discovery.specs.Reading.{IsBytes, whole};
 ghost use Rattle.std.specs.Duration.{as_nanos};
 ghost use Rattle.p2p_session.specs.Schemes.{scheme, wire};
-ghost use Rattle.p2p_session.specs.Answers.{IsAnswered, number, asked_bytes};
+ghost use Rattle.p2p_session.specs.Answers.{IsAnswered, Tells, number, asked_bytes};
 ghost use Rattle.p2p_session.specs.Given.{moment_at};
-ghost use Rattle.p2p_session.specs.Frames.{TellsReceived, fault_bytes, error_bytes};
-ghost use Rattle.p2p_session.specs.Frames.{greeter_in, key_at_end, HasKey, IsNamedAtEnd};
+ghost use Rattle.p2p_session.specs.Frames.{received_answer, fault_bytes, error_bytes};
 ghost use Rattle.p2p_session.specs.Frames.{
   verdicts_in,
   MayRefuse,
@@ -69,7 +68,7 @@ pub fn receive<C: PublicKey>(
         out.old out.new node.old node.new result }
 {
     match hear(alloc, node, checked, frame, time, verdicts, out.len()) {
-        Ok(answer) => tell_answer(answer, frame, out),
+        Ok(answer) => tell_answer(answer, out),
         Err(refusal) => refusal.number(),
     }
 }
@@ -97,14 +96,7 @@ fn hear<C: PublicKey>(
     ensures taken { IfOk result (λ a. IsTaken (scheme C.PublicKey C.Signature.FixedBytes) node.old
         (verdicts_in verdicts.now) frame.now room
         (received_of (wire (scheme C.PublicKey C.Signature.FixedBytes)) a)) }
-    ensures has_key { IfOk result (λ a. HasKey (scheme C.PublicKey C.Signature.FixedBytes)
-        (received_of (wire (scheme C.PublicKey C.Signature.FixedBytes)) a) frame.now) }
-    ensures named { IfOk result (λ a. IsNamedAtEnd (scheme C.PublicKey C.Signature.FixedBytes)
-        (received_of (wire (scheme C.PublicKey C.Signature.FixedBytes)) a) frame.now
-        (greeter_in (scheme C.PublicKey C.Signature.FixedBytes) (whole ((wire (scheme C.PublicKey
-        C.Signature.FixedBytes)).reading node.old.limits) frame.now).outcome)) }
 {
-    are_bytes(frame);
     let now = moment(time.0, time.1)?;
     if room < 1 + C::SIZE.max(8) {
         return Err(Refusal::NoRoom);
@@ -229,11 +221,6 @@ fn tell_first<C: PublicKey>(infos: &[Info<C>], count: usize, out: &mut [u8]) -> 
     )
 }
 
-// What a slice for a session's frames holds are bytes.
-fn are_bytes(bytes: &[u8])
-    ensures { IsBytes bytes.now }
-{}
-
 // The verification results for a session's frame that these bytes encode.
 #[tactic(auto, using(crate::proofs::Puts::map_next))]
 fn verdicts_of(alloc: Global, bytes: &[u8]) -> Result<Vec<bool>, AllocError>
@@ -248,17 +235,14 @@ fn verdicts_of(alloc: Global, bytes: &[u8]) -> Result<Vec<bool>, AllocError>
 
 // Writes what the session's node returned for a frame. The infos of a reply are encoded where they
 // are written.
-fn tell_answer<C: PublicKey>(answer: Answer<C>, frame: &[u8], out: &mut [u8]) -> u64
-    requires few { AreFew answer }
-    requires has_key { HasKey (scheme C.PublicKey C.Signature.FixedBytes) (received_of (wire (scheme
-        C.PublicKey C.Signature.FixedBytes)) answer) frame.now }
-    ensures { TellsReceived (key_at_end (scheme C.PublicKey C.Signature.FixedBytes) frame.now)
-        (received_of (wire (scheme C.PublicKey C.Signature.FixedBytes)) answer) out.old out.new
-        result }
+fn tell_answer<C: PublicKey>(answer: Answer<C>, out: &mut [u8]) -> u64
+    requires { AreFew answer }
+    ensures { let k = scheme C.PublicKey C.Signature.FixedBytes in
+        Tells (received_answer k (received_of (wire k) answer)) out.old out.new result }
 {
     match answer {
         Answer::Infos(infos) => tell_reply(infos.as_slice(), out),
-        Answer::Received(received) => tell_received::<C>(received, frame, out),
+        Answer::Received(received) => tell_received(received, out),
     }
 }
 
@@ -280,14 +264,13 @@ fn tell_reply<C: PublicKey>(infos: &[Info<C>], out: &mut [u8]) -> u64
 }
 
 // Writes what else the session's node returned for a frame.
-fn tell_received<C: PublicKey>(received: Received, frame: &[u8], out: &mut [u8]) -> u64
-    requires { HasKey (scheme C.PublicKey C.Signature.FixedBytes) received frame.now }
-    ensures { TellsReceived (key_at_end (scheme C.PublicKey C.Signature.FixedBytes) frame.now)
-        received out.old out.new result }
+fn tell_received<C: PublicKey>(received: Received<C>, out: &mut [u8]) -> u64
+    ensures { Tells (received_answer (scheme C.PublicKey C.Signature.FixedBytes) received) out.old
+        out.new result }
 {
     match received {
         Received::Data(sent) => tell_data(&sent, out),
-        Received::Greeted => tell_greeter::<C>(frame, out),
+        Received::Greeted(key) => tell_greeter(&key, out),
         Received::Reply(frame) => answer(&[Plain(&[2]), Plain(frame.as_slice())], out),
         Received::Applied(count) => answer(
             &[Plain(&[3]), Plain(&(count as u64).to_be_bytes())],
@@ -315,15 +298,11 @@ fn tell_data(sent: &Data, out: &mut [u8]) -> u64
     )
 }
 
-// Writes for the session the key of a greeting, which is before the signature at the end of its
-// frame.
-fn tell_greeter<C: PublicKey>(frame: &[u8], out: &mut [u8]) -> u64
-    requires { C.SIZE + C.Signature.SIZE ≤ length frame.now }
-    ensures { IsAnswered (1 ∷ key_at_end (scheme C.PublicKey C.Signature.FixedBytes) frame.now)
-        out.old out.new result }
+// Writes for the session the key of a greeting.
+fn tell_greeter<C: PublicKey>(key: &C, out: &mut [u8]) -> u64
+    ensures { IsAnswered (1 ∷ C.spelled key.now) out.old out.new result }
 {
-    let start = frame.len() - (C::SIZE + C::Signature::SIZE);
-    answer(&[Plain(&[1]), Plain(&frame[start..start + C::SIZE])], out)
+    answer(&[Values::Bytes(&[1]), Values::Key(key)], out)
 }
 
 // Writes for the session the error of a frame.

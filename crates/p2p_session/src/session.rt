@@ -6,8 +6,8 @@ ghost use Rattle.p2p_session.specs.Schemes.{scheme};
 ghost use Rattle.p2p_session.specs.Refusals.{number_of};
 ghost use Rattle.p2p_session.specs.declared.refusal.Refusal.TheVariants.{Memory};
 ghost use Rattle.p2p_session.specs.Given.{asked, numbers_of};
-ghost use Rattle.p2p_session.specs.Sessions.{IsFresh, Serves, InitsBy, IsMade, Asks};
-ghost use Rattle.p2p_session.specs.Sessions.{Checks, Receives};
+ghost use Rattle.p2p_session.specs.Sessions.{IsFresh, Serves, InitsBy, IsMade, Looks, Receives};
+ghost use Rattle.p2p_session.specs.Sessions.Look.{Check, Wanted};
 
 use crate::checked::Checked;
 use crate::frames;
@@ -124,8 +124,8 @@ impl<C: PublicKey> Session<C> {
     /// `None`.
     #[inline(never)]
     pub fn ask(&mut self, place: u64, out: &mut [u8]) -> u64
-        ensures { Asks (scheme C.PublicKey C.Signature.FixedBytes) place out.old out.new self.old
-            self.new result }
+        ensures { Looks (scheme C.PublicKey C.Signature.FixedBytes) (Wanted place) out.old out.new
+            self.old.node self.new.node result }
     {
         match &self.node {
             Some(node) => tell_frame(node.ask(place as usize), out),
@@ -149,8 +149,8 @@ impl<C: PublicKey> Session<C> {
         nanos: u32,
         out: &mut [u8],
     ) -> u64
-        ensures { Checks (scheme C.PublicKey C.Signature.FixedBytes) frame.now seconds nanos out.old
-            out.new self.old self.new result }
+        ensures { Looks (scheme C.PublicKey C.Signature.FixedBytes) (Check frame.now seconds nanos)
+            out.old out.new self.old.node self.new.node result }
     {
         match &self.node {
             Some(node) => {
@@ -161,7 +161,7 @@ impl<C: PublicKey> Session<C> {
         }
     }
 
-    /// `Node::receive_with_verdicts` of the session's node: processes a frame, and writes the
+    /// `Node::answer_with_verdicts` of the session's node: processes a frame, and writes the
     /// answer. `verdicts` has a byte for each of its infos, which says whether its signature is
     /// valid. A frame that was checked last is decoded already.
     #[inline(never)]
@@ -175,8 +175,7 @@ impl<C: PublicKey> Session<C> {
         out: &mut [u8],
     ) -> u64
         ensures { Receives (scheme C.PublicKey C.Signature.FixedBytes) frame.now seconds nanos
-            verdicts.now out.old out.new
-            self.old self.new result }
+            verdicts.now out.old out.new self.old.node self.new.node result }
     {
         match &mut self.node {
             Some(node) => {

@@ -113,10 +113,10 @@ module _ (any : Command ℕ ℕ) (told : Exchanged ℕ ℕ) (is : infos_applied 
       ∷ tracked 1
       ∷ tracked 2
       ∷ tracked 3
-      ∷ (network.Frame 2 greeting_1 (seconds 100), answer.Frame received.Greeted)
+      ∷ (network.Frame 2 greeting_1 (seconds 100), answer.Frame (received.Greeted 1))
       ∷ listened 2
       ∷ connected 2
-      ∷ (network.Frame 3 greeting_elsewhere (seconds 100), answer.Frame received.Greeted)
+      ∷ (network.Frame 3 greeting_elsewhere (seconds 100), answer.Frame (received.Greeted 1))
       ∷ listened 3
       ∷ connected 3
       ∷ (network.Call 4 any, answer.NoNode)

@@ -53,7 +53,7 @@ abbrev replies : Infos → List (PairReply ℕ ℕ)
 replies brought =
     answer.Call (reply.Track (Some []))
     ∷ answer.Call (reply.Track (Some []))
-    ∷ answer.Frame received.Greeted
+    ∷ answer.Frame (received.Greeted 1)
     ∷ answer.Call (reply.Listen true)
     ∷ answer.Call reply.Connect
     ∷ answer.Exchange (exchanged.Applied brought)

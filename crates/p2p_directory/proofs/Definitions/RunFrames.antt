@@ -115,9 +115,9 @@ module _ (brought none passed : Infos) where
 abbrev before_greeting : Done ℕ ℕ
 before_greeting = (network.Frame 1 bits (seconds 100), answer.Frame (received.Reply peers_1)) ∷ questioned
 
-greeting_is_taken : (r : Received) →
+greeting_is_taken : (r : Received ℕ ℕ) →
     TakesGreeting wire 3 three before_greeting (network.Frame 0 greeting_of_8 (seconds 100)) (answer.Frame r) →
-    (r ≡ received.Greeted) ⊎ (r ≡ received.Memory)
+    (r ≡ received.Greeted 8) ⊎ (r ≡ received.Memory)
 unfolding groups
 greeting_is_taken r takes = takes 1 refl refl refl refl (omega arith)
 
@@ -141,13 +141,13 @@ module _ (brought none : Infos) (is_brought : brought.items ≡ signed 1 100000 
   dropped = (network.Call 0 (command.Track 2 (peers (2 ∷ 3 ∷ []))), answer.Call (reply.Track (Some [])))
       ∷ (late_frame 1000, answer.Frame (received.Applied 1)) ∷ first_late
 
-  is_taken : (r : Received) → TakesFrame wire 3 three IsByte IsByte first_late (late_frame 1000) (answer.Frame r) →
+  is_taken : (r : Received ℕ ℕ) → TakesFrame wire 3 three IsByte IsByte first_late (late_frame 1000) (answer.Frame r) →
       (r ≡ received.Applied 1) ⊎ (r ≡ received.Memory)
   is_taken r takes = let taken : IsTaken asker (calls_at wire 3 three first_late 0) (signed 1 100000 ∷ []) r
       (calls_at wire 3 three ((late_frame 1000, answer.Frame r) ∷ first_late) 0) =
       takes (sec 100) (signed 1 100000 ∷ []) spells fits_at in taken.answer
 
-  is_taken_later : (r : Received) → TakesFrame wire 3 three IsByte IsByte dropped (late_frame 2000) (answer.Frame r) →
+  is_taken_later : (r : Received ℕ ℕ) → TakesFrame wire 3 three IsByte IsByte dropped (late_frame 2000) (answer.Frame r) →
       (r ≡ received.Applied 1) ⊎ (r ≡ received.Memory)
   is_taken_later r takes = let taken : IsTaken asker (calls_at wire 3 three dropped 0) (signed 1 100000 ∷ []) r
       (calls_at wire 3 three ((late_frame 2000, answer.Frame r) ∷ dropped) 0) =

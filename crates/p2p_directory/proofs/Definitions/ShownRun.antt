@@ -92,7 +92,7 @@ first =
     ∷ (network.Call 2 (command.Track 0 peers12), answer.Call (reply.Track (Some [])))
     ∷ (network.Frame 2 greeting_1 (seconds 100), answer.Frame received.Memory)
     ∷ (network.Frame 0 greeting_1 (seconds 0), answer.Frame (received.Invalid SynchronyBound))
-    ∷ (network.Frame 1 greeting_1 (seconds 100), answer.Frame received.Greeted)
+    ∷ (network.Frame 1 greeting_1 (seconds 100), answer.Frame (received.Greeted 1))
     ∷ (network.Call 3 (command.Track 0 peers12), answer.NoNode)
     ∷ (network.Call 0 (command.Connect 1 false), answer.Call reply.NotReserved)
     ∷ (network.Call 1 (command.Listen 1 (seconds 50) (seconds 0)), answer.Call (reply.Listen true))
@@ -125,7 +125,7 @@ frames =
     (network.Ask 0 0, answer.Ask (Some bits))
     ∷ (network.Ask 0 0, answer.OutOfMemory)
     ∷ (network.Frame 1 bits (seconds 100), answer.Frame (received.Reply peers_1))
-    ∷ (network.Frame 0 greeting_of_8 (seconds 100), answer.Frame received.Greeted)
+    ∷ (network.Frame 0 greeting_of_8 (seconds 100), answer.Frame (received.Greeted 8))
     ∷ (
       network.Frame 1 data_frame (seconds 100),
       answer.Frame (received.Data (record { channel = 1; message = hello })),

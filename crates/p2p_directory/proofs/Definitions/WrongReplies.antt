@@ -49,7 +49,7 @@ answer_at (suc k) before (c ∷ cs) (r ∷ rs) h = answer_at k ((c, r) ∷ befor
 abbrev other_reply : Reply ℕ ℕ
 other_reply = reply.NotReserved
 
-message_of : Received → List ℕ
+message_of : Received ℕ ℕ → List ℕ
 message_of (received.Data d) = d.message
 message_of _ = []
 
@@ -106,16 +106,16 @@ module _ (brought none passed : Infos) where
 
   -- FRAMES
 
-  abbrev IsWrong : ℕ → Received → Type 0
+  abbrev IsWrong : ℕ → Received ℕ ℕ → Type 0
   IsWrong k r = IsRefused k (answer.Frame r)
 
-  frame_refused : (k : ℕ) (r : Received) →
+  frame_refused : (k : ℕ) (r : Received ℕ ℕ) →
       (IsAnswerAt k [] (commands brought none passed) (with_reply k (answer.Frame r)) → ⊥) → IsWrong k r
   frame_refused k r wrong = refused k (answer.Frame r) wrong
 
   wrong_frames :
-      -- in the place of `Memory`, and of `Invalid`
-      IsWrong 3 received.Malformed × IsWrong 4 received.Greeted
+      -- in the place of `Memory`: also a greeting of another peer; and of `Invalid`
+      IsWrong 3 received.Malformed × IsWrong 3 (received.Greeted 2) × IsWrong 4 (received.Greeted 1)
       -- .. of `Reply`: one without infos; of `Greeted`
       × IsWrong 12 (received.Reply (3 ∷ 0 ∷ [])) × IsWrong 13 (received.Invalid SynchronyBound)
       -- .. of `Data`: also another message
@@ -130,10 +130,11 @@ module _ (brought none passed : Infos) where
   unfolding life payload_at body_at data_at message_at length_at groups groups_at texts.info_at ingress_at ip_at
       socket_at bits_read_at bit_vec_read_at bits_in packed spellings elems items_at list_at message_of
   wrong_frames = (
-    frame_refused 3 received.Malformed (λ h. absurd (let e : received.Malformed ≡ received.Greeted = h.1 in cc)),
-    frame_refused 4 received.Greeted (λ h. absurd (let e : received.Greeted ≡ received.Invalid SynchronyBound = h.1 in cc)),
+    frame_refused 3 received.Malformed (λ h. absurd (let e : received.Malformed ≡ received.Greeted 1 = h.1 in cc)),
+    frame_refused 3 (received.Greeted 2) (λ h. absurd (let e : received.Greeted 2 ≡ received.Greeted 1 = h.1 in cc)),
+    frame_refused 4 (received.Greeted 1) (λ h. absurd (let e : received.Greeted 1 ≡ received.Invalid SynchronyBound = h.1 in cc)),
     frame_refused 12 (received.Reply (3 ∷ 0 ∷ [])) (λ h. absurd (let e : received.Reply (3 ∷ 0 ∷ []) ≡ received.Reply peers_1 = h.1 in cc)),
-    frame_refused 13 (received.Invalid SynchronyBound) (λ h. absurd (let e : received.Invalid SynchronyBound ≡ received.Greeted = h.1 in cc)),
+    frame_refused 13 (received.Invalid SynchronyBound) (λ h. absurd (let e : received.Invalid SynchronyBound ≡ received.Greeted 8 = h.1 in cc)),
     frame_refused 14 (received.Codec EndOfBuffer) (λ h. absurd (let e : received.Codec EndOfBuffer ≡ received.Data (record { channel = 1; message = hello }) = h.1 in cc)),
     frame_refused 14 (received.Data (record { channel = 1; message = [] })) (λ h.
         absurd (let e : [] ≡ hello = ap message_of h.1 in cc)),

@@ -15,7 +15,7 @@ use Rattle.p2p_directory.specs.Received.{FrameOutcome}
 
 module _ {C S : Type 0} where
   -- an answer is the one that is said, or want of memory
-  pub answer_or_memory : (r : Received) (may : Bool) (o : FrameOutcome C S) (said : Received) →
+  pub answer_or_memory : (r : Received C S) (may : Bool) (o : FrameOutcome C S) (said : Received C S) →
       frames.IsFrameAnswer may o r → o.answer ≡ said → (r ≡ said) ⊎ (r ≡ received.Memory)
   answer_or_memory received.Memory may o said is e = inr refl
   answer_or_memory r may o said is e = inl (is ∙ e)

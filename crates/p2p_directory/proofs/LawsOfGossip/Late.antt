@@ -110,10 +110,10 @@ module _ {C S : Type 0} {key_size signature_size : ℕ} {key : C → List ℕ} {
         abbrev coming : FrameOutcome C S
         coming = received_at wire (standing_in m wire (world calls)) frame now
 
-        abbrev once : Received
+        abbrev once : Received C S
         once = received.Applied (length infos)
 
-        is_taken : (r : Received) (may : Bool) → frames.IsFrameAnswer may coming r →
+        is_taken : (r : Received C S) (may : Bool) → frames.IsFrameAnswer may coming r →
             IsTaken m calls infos r (calls_with (applied_with coming r) calls)
         is_taken r may is = go (answer_or_memory r may coming (received.Applied (length infos)) is
             (ap (λ (o : FrameOutcome C S). o.answer) (applied (world calls))))
@@ -141,7 +141,7 @@ module _ {C S : Type 0} {key_size signature_size : ℕ} {key : C → List ℕ} {
                 })
 
     -- a frame after any calls
-    pub takes_late : (calls : List (Call C S)) (frame : List ℕ) (now : ℕ) (r : Received)
+    pub takes_late : (calls : List (Call C S)) (frame : List ℕ) (now : ℕ) (r : Received C S)
         (may : Bool) →
         frames.IsFrameAnswer may
         (received_at wire (standing_in m wire (world calls)) frame now) r →

@@ -55,14 +55,14 @@ module _ {C S : Type 0} {key_size signature_size : ℕ} {key : C → List ℕ} {
         let n : Standing C S = standing_at wire size node done i in
         let o : Info C S = own other in
         let told : received_at wire n (wire.spelling (said.Greeting o)) (as_nanos now)
-        ≡ applying received.Greeted (o ∷ []) =
+        ≡ applying (received.Greeted o.public_key) (o ∷ []) =
         ap (read_at wire n (as_nanos now))
         (read_back k s n.limits (said.Greeting o) (is_info other there, is_keyed other there))
         ∙ ap (greeted wire o) (Judged.fine n.judge (as_nanos now) o
         (ap (λ q. is_eq ((node i).directory.cmp q o.public_key)) (made i is.0).me ∙ apart)
         (le-ltb (min (as_nanos now + n.judge.synchrony_bound) max_nanos) (o.timestamp * 10 ^ 6)
         within) signed) in
-        answer_or_memory r _ (received_at wire n frame (as_nanos now)) received.Greeted is.1
+        answer_or_memory r _ (received_at wire n frame (as_nanos now)) (received.Greeted o.public_key) is.1
         (ap (λ (x : FrameOutcome C S). x.answer)
         (ap (λ f. received_at wire n f (as_nanos now)) same ∙ told))
     takes_greeting done c r is = tt
@@ -72,7 +72,7 @@ module _ {C S : Type 0} {key_size signature_size : ℕ} {key : C → List ℕ} {
   module _ (cmp : C → C → Ordering) (total : IsTotalOrder cmp)
       (exact_keys : (q p : C) → cmp q p ≡ Equal → q ≡ p)
       (made : AreMade wire size node cmp) where
-    after_frame : (done : Done C S) (i : ℕ) (frame : List ℕ) (now : Duration) (r : Received) →
+    after_frame : (done : Done C S) (i : ℕ) (frame : List ℕ) (now : Duration) (r : Received C S) →
         IsNetworkAnswer wire size node done (command.Frame i frame now) (reply.Frame r) →
         calls_at wire size node ((command.Frame i frame now, reply.Frame r) ∷ done) i
         ≡ calls_with (applied_with (received_at wire (standing_at wire size node done i) frame

@@ -42,10 +42,10 @@ use Rattle.p2p_directory.proofs.LawsOfGossip.Exchanges
 use Rattle.p2p_directory.proofs.LawsOfNetworks.Provenance
 use Rattle.p2p_directory.proofs.LawsOfGossip.Greetings.{read_back}
 
-reply_content : (a b : List ℕ) → received.Reply a ≡ received.Reply b → a ≡ b
-reply_content a b e =
-    let content : Received → List ℕ = λ r. elim r [ received.Reply frame ↦ frame | _ ↦ a ] in
-    ap content e
+-- the bytes of a reply; of any other answer none
+abbrev content : {C S : Type 0} → Received C S → List ℕ
+content (received.Reply frame) = frame
+content _ = []
 
 module _ {C S : Type 0} {key_size signature_size : ℕ} {key : C → List ℕ} {signature : S → List ℕ}
     {key_of : List ℕ → Option C} {signature_of : List ℕ → Option S}
@@ -175,7 +175,7 @@ module _ {C S : Type 0} {key_size signature_size : ℕ} {key : C → List ℕ} {
             ∙ ap (replied wire)
             (Exchanges.reply_is wire a b w v x one.kept now one.retained one.one_list)
 
-        module _ (r : Received) (may : Bool) (is : frames.IsFrameAnswer may coming r)
+        module _ (r : Received C S) (may : Bool) (is : frames.IsFrameAnswer may coming r)
             (written : AreValues IsKey IsSignature (told_with coming r)) (sent : List ℕ)
             (is_reply : r ≡ received.Reply sent) where
           answer : received.Reply sent ≡ coming.answer
@@ -194,8 +194,7 @@ module _ {C S : Type 0} {key_size signature_size : ℕ} {key : C → List ℕ} {
               go false e = record {
                 infos = infos;
                 spells = record {
-                  spelled = reply_content sent (wire.spelling (said.Peers infos))
-                      (answer ∙ ap (λ (o : FrameOutcome C S). o.answer) (told e));
+                  spelled = ap content (answer ∙ ap (λ (o : FrameOutcome C S). o.answer) (told e));
                   small = omega (
                     arith,
                     ltb-false b.limits.max_bit_vec (length bits.bits) e,

@@ -67,7 +67,7 @@ module _ {C S : Type 0} (cmp : C → C → Ordering) (wire : Wire C S) (es : Lis
   }
 
   -- .. took a frame
-  pub received_among : (i : ℕ) (frame : List ℕ) (now : Duration) (r : Received)
+  pub received_among : (i : ℕ) (frame : List ℕ) (now : Duration) (r : Received C S)
       (d e2 : EndpointView C S) → i < length es →
       AnswersFrame cmp wire frame (as_nanos now) r (node_of (slice_index_or es i d)) (node_of e2) →
       IsServedAmong cmp wire (command.Frame i frame now) (reply.Frame r)

@@ -31,7 +31,7 @@ use Rattle.p2p_directory.proofs.Nodes.ReadBack.{wire_by, too_many_bits, too_many
 -- WHAT THE FRAMES COME TO is one outcome
 
 module _ {C S : Type 0} (wire : Wire C S) (asker replier : Standing C S) (place s t : ℕ) where
-  by_applied : Received → Option (List (Info C S)) → ExchangeOutcome C S
+  by_applied : Received C S → Option (List (Info C S)) → ExchangeOutcome C S
   by_applied (received.Codec fault) infos = ReplyRefused fault
   by_applied (received.Invalid error) infos = Invalid error
   by_applied (received.Applied count) (Some infos) = Applied infos
@@ -40,7 +40,7 @@ module _ {C S : Type 0} (wire : Wire C S) (asker replier : Standing C S) (place 
   by_outcome : FrameOutcome C S → ExchangeOutcome C S
   by_outcome o = by_applied o.answer o.applied
 
-  by_answer : Received → ExchangeOutcome C S
+  by_answer : Received C S → ExchangeOutcome C S
   by_answer (received.Codec fault) = AskRefused fault
   by_answer received.Malformed = Malformed
   by_answer (received.Reply reply) = by_outcome (received_at wire asker reply s)
@@ -101,10 +101,10 @@ module _ {C S : Type 0} (cmp : C → C → Ordering) (wire : Wire C S) (place s 
   abbrev replying : Standing C S
   replying = standing_of cmp wire b
 
-  abbrev Answered : Received → Type 0
+  abbrev Answered : Received C S → Type 0
   Answered answer = AnswersAsk wire asking replying place t answer
 
-  one_answer : (x y : Received) → Answered x → Answered y → x ≡ y
+  one_answer : (x y : Received C S) → Answered x → Answered y → x ≡ y
   one_answer x y h h2 =
       let same : h.0 ≡ h2.0 = (let e = h.1 in let e2 = h2.1 in cc) in
       sym h.2 ∙ ap (λ frame. (received_at wire replying frame t).answer) same ∙ h2.2

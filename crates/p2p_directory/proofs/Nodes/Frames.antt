@@ -44,7 +44,7 @@ module _ {C S : Type 0} (wire : Wire C S) (node : Standing C S) (now : ℕ) wher
   of_reading (Ok (said.Peers infos, rest)) = of_infos infos (list_refusal node.judge now infos)
 
   -- the calls accepted after an answer
-  after : (calls : List (Call C S)) (may : Bool) (o : FrameOutcome C S) (infos : List (Info C S)) (r : Received) → Applies o infos → frames.IsFrameAnswer may o r →
+  after : (calls : List (Call C S)) (may : Bool) (o : FrameOutcome C S) (infos : List (Info C S)) (r : Received C S) → Applies o infos → frames.IsFrameAnswer may o r →
       calls_with (applied_with o r) calls ≡ (if applies r then Update infos ∷ calls else calls)
   after calls may o infos r fits h = go r h
     where
@@ -52,17 +52,17 @@ module _ {C S : Type 0} (wire : Wire C S) (node : Standing C S) (now : ℕ) wher
       is true e = ap (λ x. calls_with x calls) (subst (λ b. o.applied ≡ (if b then Some infos else None)) e fits)
       is false e = ap (λ x. calls_with x calls) (subst (λ b. o.applied ≡ (if b then Some infos else None)) e fits)
 
-      go : (r : Received) → frames.IsFrameAnswer may o r → calls_with (applied_with o r) calls ≡ (if applies r then Update infos ∷ calls else calls)
+      go : (r : Received C S) → frames.IsFrameAnswer may o r → calls_with (applied_with o r) calls ≡ (if applies r then Update infos ∷ calls else calls)
       go received.Memory h = refl
       go (received.Data message) h = is false (ap applies (sym h))
-      go received.Greeted h = is true (ap applies (sym h))
+      go (received.Greeted key) h = is true (ap applies (sym h))
       go (received.Reply frame) h = is false (ap applies (sym h))
       go (received.Applied count) h = is true (ap applies (sym h))
       go (received.Codec fault) h = is false (ap applies (sym h))
       go received.Malformed h = is false (ap applies (sym h))
       go (received.Invalid error) h = is false (ap applies (sym h))
 
-  pub calls_after_frame : (calls : List (Call C S)) (frame : List ℕ) (may : Bool) (r : Received) → frames.IsFrameAnswer may (received_at wire node frame now) r →
+  pub calls_after_frame : (calls : List (Call C S)) (frame : List ℕ) (may : Bool) (r : Received C S) → frames.IsFrameAnswer may (received_at wire node frame now) r →
       calls_with (applied_with (received_at wire node frame now) r) calls
       ≡ (if applies r then Update (infos_of_frame wire node.limits frame) ∷ calls else calls)
   calls_after_frame calls frame may r h =

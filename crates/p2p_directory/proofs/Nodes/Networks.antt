@@ -182,7 +182,7 @@ module _ {C S : Type 0} (wire : Wire C S) (size : ℕ) (node : ℕ → Made C S)
     stand = same_more (command.Ask i place) reply.OutOfMemory (λ k. refl);
   }
 
-  pub frame_more : (i : ℕ) (frame : List ℕ) (now : Duration) (r : Received)
+  pub frame_more : (i : ℕ) (frame : List ℕ) (now : Duration) (r : Received C S)
       (e2 : EndpointView C S) → i < length es →
       IsReceivedAt (node i) wire (calls_at wire size node done i) frame (as_nanos now) r
       (node_of e2) →

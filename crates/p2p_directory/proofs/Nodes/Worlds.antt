@@ -71,7 +71,7 @@ module _ {C S : Type 0} (m : Made C S) (wire : Wire C S) (calls : List (Call C S
   left_at some None v2 same = subst (NodeStandsAt m calls) (sym same) at
   left_at some (Some infos) v2 change = updated m calls v at some infos v2 change.0 change.1
 
-  pub answered_in : 1 ≤ m.directory.max_sets → (may : Standing C S → Bool) (outcome : Standing C S → FrameOutcome C S) (r : Received) (v2 : NodeView C S) →
+  pub answered_in : 1 ≤ m.directory.max_sets → (may : Standing C S → Bool) (outcome : Standing C S → FrameOutcome C S) (r : Received C S) (v2 : NodeView C S) →
       Answers m.directory.cmp (may seen) (outcome seen) r v v2 → IsAnsweredAt m wire calls may outcome r v2
   answered_in some may outcome r v2 answers = record {
     answer = subst (λ node. frames.IsFrameAnswer (may node) (outcome node) r) stands_alike answers.answer;
@@ -79,11 +79,11 @@ module _ {C S : Type 0} (m : Made C S) (wire : Wire C S) (calls : List (Call C S
         stands_alike (left_at some (applied_with (outcome seen) r) v2 answers.left);
   }
 
-  pub received_in : 1 ≤ m.directory.max_sets → (frame : List ℕ) (now : ℕ) (r : Received) (v2 : NodeView C S) →
+  pub received_in : 1 ≤ m.directory.max_sets → (frame : List ℕ) (now : ℕ) (r : Received C S) (v2 : NodeView C S) →
       Answers m.directory.cmp (frame_may_want_memory wire seen frame now) (received_at wire seen frame now) r v v2 → IsReceivedAt m wire calls frame now r v2
   received_in some frame now = answered_in some (λ node. frame_may_want_memory wire node frame now) (λ node. received_at wire node frame now)
 
-  pub received_by_in : 1 ≤ m.directory.max_sets → (verdicts : List Bool) (frame : List ℕ) (now : ℕ) (r : Received) (v2 : NodeView C S) →
+  pub received_by_in : 1 ≤ m.directory.max_sets → (verdicts : List Bool) (frame : List ℕ) (now : ℕ) (r : Received C S) (v2 : NodeView C S) →
       Answers m.directory.cmp (frame_may_want_memory_by wire (λ _. verdicts) seen frame now) (received_by wire (λ _. verdicts) seen frame now) r v v2 →
       IsReceivedByAt m wire calls verdicts frame now r v2
   received_by_in some verdicts frame now = answered_in some (λ node. frame_may_want_memory_by wire (λ _. verdicts) node frame now) (λ node. received_by wire (λ _. verdicts) node frame now)
@@ -95,7 +95,7 @@ module _ {C S : Type 0} (m : Made C S) (wire : Wire C S) (calls : List (Call C S
   }
 
   -- what is told has a spelling
-  pub told_in : (IsKey : C → Type 0) (IsSignature : S → Type 0) (frame : List ℕ) (now : ℕ) (r : Received) →
+  pub told_in : (IsKey : C → Type 0) (IsSignature : S → Type 0) (frame : List ℕ) (now : ℕ) (r : Received C S) →
       AreValues IsKey IsSignature (told_with (received_at wire seen frame now) r) →
       AreValues IsKey IsSignature (told_with (received_at wire made frame now) r)
   told_in IsKey IsSignature frame now r values = subst (λ node. AreValues IsKey IsSignature (told_with (received_at wire node frame now) r)) stands_alike values

@@ -1,16 +1,14 @@
 -- One more reply.
 use Rattle.std.proofs.Common.{◌≡◌, true, Option, List, [], ◌∷◌, ◌++◌, refl, sym, ◌∙◌, ap, subst}
 use Rattle.std.proofs.lemmas.List.{map-append}
-use Rattle.std.proofs.lemmas.List.Elements.{Contains-append_left}
-use Rattle.std.specs.List.{All, Contains}
 use Rattle.std.specs.Option.{option_map_or}
-use Rattle.std.specs.Prelude.{Some, None, IfSome}
+use Rattle.std.specs.Prelude.{Some, None}
 use Rattle.std.specs.declared.cmp.Ordering.{Ordering}
 use Rattle.p2p_tracker.specs.declared.directory.Metadata.{Metadata}
 use Rattle.p2p_directory.specs.declared.run.commands.Command.{Command}
 use Rattle.p2p_tracker.specs.Calls.{Settings, Call}
 use Rattle.p2p_directory.specs.declared.run.commands.Reply.{Reply}
-use Rattle.p2p_directory.specs.Private.Serving.{ServerView, has_slot_for, reserved_peer, IsAmong, StandsAt, IsCallServedAt}
+use Rattle.p2p_directory.specs.Private.Serving.{ServerView, has_slot_for, reserved_peer, StandsAt, IsCallServedAt}
 use Rattle.p2p_directory.specs.Private.Slots.{has_slot}
 use Rattle.p2p_directory.specs.Run.{call_of, calls_of, next, IsAnswer, accepted, AreAnswers}
 
@@ -30,24 +28,6 @@ pub room_stays : {C S : Type 0} (cmp : C → C → Ordering) (slots slots2 : Lis
     (x : Command C S) → ((q : C) → has_slot cmp slots2 q ≡ has_slot cmp slots q)
     → has_slot_for cmp slots x ≡ true → has_slot_for cmp slots2 x ≡ true
 room_stays cmp slots slots2 x same h = room_grows cmp slots slots2 x (λ q is. same q ∙ is) h
-
--- one more peer is listed
-pub among_more : {C S : Type 0} (peers : List C) (p : C) (x : Command C S) → IsAmong peers x → IsAmong (peers ++ p ∷ []) x
-among_more {C} peers p x h = go (reserved_peer x) h
-  where
-    go : (o : Option C) → IfSome o (Contains peers) → IfSome o (Contains (peers ++ p ∷ []))
-    go None h = tt
-    go (Some q) h = Contains-append_left peers (p ∷ []) q h
-
--- each of the peers has a slot
-pub room_for : {C S : Type 0} (cmp : C → C → Ordering) (slots : List (C × Option (Metadata C S))) (peers : List C) →
-    All (λ q. has_slot cmp slots q ≡ true) peers → (x : Command C S) → IsAmong peers x → has_slot_for cmp slots x ≡ true
-room_for {C} cmp slots peers all x h = go (reserved_peer x) h
-  where
-    go : (o : Option C) → IfSome o (Contains peers) →
-        option_map_or (has_slot cmp slots) o true ≡ true
-    go None h = refl
-    go (Some q) h = subst (λ q. has_slot cmp slots q ≡ true) h.2 (all h.0 q h.1)
 
 module _ {C S : Type 0} (s : Settings C S) where
   pub answers_push : (before cs : List (Call C S)) (rs : List (Reply C S)) (c : Call C S) (r : Reply C S) →

@@ -26,7 +26,7 @@ module _ {C S : Type 0} where
   -- what comes of a frame with these infos: after the accepted calls `before` it was answered r,
   -- and then the accepted calls are `after`
   pub record IsTaken (m : Made C S) (before : List (Call C S)) (infos : List (Info C S))
-      (r : Received) (after : List (Call C S)) : Type 0 where
+      (r : Received C S) (after : List (Call C S)) : Type 0 where
     -- they are applied, want of memory aside
     pub answer : (r ≡ received.Applied (length infos)) ⊎ (r ≡ received.Memory)
     -- afterwards what is known of their peers is at least as new
@@ -62,12 +62,12 @@ module _ {C S : Type 0} (wire : Wire C S) (IsKey : C → Type 0) (IsSignature : 
     pub each : AllByRecursion (IsFor wire m t) infos
 
   -- a frame that spells infos for a node, told at any moment, is taken where they fit
-  abbrev pub TakesLate : Made C S → List (Call C S) → List ℕ → ℕ → Received → List (Call C S) →
+  abbrev pub TakesLate : Made C S → List (Call C S) → List ℕ → ℕ → Received C S → List (Call C S) →
       Type 0
   TakesLate m before frame now r after = (t : ℕ) (infos : List (Info C S)) →
       SpellsFor m t frame infos → FitsAt m t now infos → IsTaken m before infos r after
 
   -- .. by a node that stands after these calls
-  abbrev pub TakesLateAt : Made C S → List (Call C S) → List ℕ → ℕ → Received → Type 0
+  abbrev pub TakesLateAt : Made C S → List (Call C S) → List ℕ → ℕ → Received C S → Type 0
   TakesLateAt m calls frame now r = TakesLate m calls frame now r (calls_with (applied_with
       (received_at wire (standing_in m wire (world_after m.directory calls)) frame now) r) calls)

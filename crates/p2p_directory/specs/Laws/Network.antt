@@ -271,7 +271,7 @@ module _ {C S : Type 0} (wire : Wire C S) (size : ℕ) (node : ℕ → Made C S)
       is_own (node n).directory own.public_key ≡ false →
       own.timestamp * 10 ^ 6
       ≤ min (as_nanos now + (node n).verifier.synchrony_bound) max_nanos →
-      (r ≡ received.Greeted) ⊎ (r ≡ received.Memory)
+      (r ≡ received.Greeted own.public_key) ⊎ (r ≡ received.Memory)
   TakesGreeting done _ _ = Unit {0}
 
   -- a frame of infos for a node is taken, however late, by these keys and signatures

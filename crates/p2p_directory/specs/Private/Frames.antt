@@ -12,7 +12,7 @@ use Rattle.p2p_directory.specs.declared.node.received.Received.TheVariants as re
 use Rattle.p2p_directory.specs.Exchange.{HasSpelling, HaveSpelling}
 
 -- a fault, or want of memory
-abbrev pub fault_answer : CodecError → Received
+abbrev pub fault_answer : {C S : Type 0} → CodecError → Received C S
 fault_answer Memory = received.Memory
 fault_answer e = received.Codec e
 

@@ -1,6 +1,5 @@
 -- Serving one command: from wherever the calls accepted before led, the reply is the answer.
-use Rattle.std.specs.Prelude.{◌≡◌, ◌⊎◌, ◌<◌, ◌^◌, Bool, true, List, Option, Some, IfSome}
-use Rattle.std.specs.List.{Contains}
+use Rattle.std.specs.Prelude.{◌≡◌, ◌⊎◌, ◌<◌, ◌^◌, Bool, true, List, Option, Some}
 use Rattle.std.specs.Option.{option_map_or}
 use Rattle.std.specs.declared.cmp.Ordering.{Ordering}
 use Rattle.p2p_discovery.specs.declared.discovery.Info.{Info}
@@ -35,10 +34,6 @@ named_peer x = reserved_peer x
 abbrev pub has_slot_for : {C S : Type 0} → (C → C → Ordering) →
     List (C × Option (Metadata C S)) → Command C S → Bool
 has_slot_for cmp slots x = option_map_or (has_slot cmp slots) (reserved_peer x) true
-
--- the peer that the command may be granted a reservation of is one of these
-abbrev pub IsAmong : {C S : Type 0} → List C → Command C S → Type 0
-IsAmong peers x = IfSome (reserved_peer x) (Contains peers)
 
 module _ {C S : Type 0} (s : Settings C S) where
   -- the directory and what is held stand at the point after these calls; the limit is a `usize`

@@ -23,7 +23,7 @@ use p2p_discovery::codec::PublicKey;
 /// to it before. The premises are in docs/PROOFS.md, below "Late and repeated frames".
 pub fn infos_may_come_late<C: PublicKey>()
     ensures { (m : Made C C.Signature) → IsMade C.cmp m →
-        (calls : List (Call C C.Signature)) (frame : List ℕ) (now : ℕ) (r : Received)
+        (calls : List (Call C C.Signature)) (frame : List ℕ) (now : ℕ) (r : Received C C.Signature)
         (v : NodeView C C.Signature) →
         let wire = wire_of C.verifies C.FixedBytes C.Signature.FixedBytes in
         IsReceivedAt m wire calls frame now r v →

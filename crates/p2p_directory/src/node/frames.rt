@@ -67,7 +67,7 @@ impl<C: PublicKey> Node<C> {
     /// # Cost
     ///
     /// One pass over the frame, one signature verified for each info, and the cost of the call.
-    pub fn receive(&mut self, frame: Bytes, now: Duration) -> Received
+    pub fn receive(&mut self, frame: Bytes, now: Duration) -> Received<C>
         ensures seen { AnswersFrame C.cmp (wire_of C.verifies C.FixedBytes C.Signature.FixedBytes)
             frame (as_nanos now) result self.old self.new }
         ensures unchanged { applies result ≡ false → self.new ≡ self.old }
@@ -82,50 +82,16 @@ impl<C: PublicKey> Node<C> {
         self.endpoint.answer(frame, now)
     }
 
-    /// Processes a frame that the node received at `now` as [`Node::receive`] does, given whether
-    /// the signature of each of its infos is valid, in the order of the frame. No signature is
-    /// verified here. A greeting has one info, bits and data have none. The result is the one of
-    /// [`Node::receive`] if [`PublicKey::verify`] returned these values.
+    /// Processes a frame that the node received at the time `now` as [`Node::receive`] does, given
+    /// whether the signature of each of its infos is valid, in the order of the frame. No signature
+    /// is verified here. A greeting has one info, bits and data have none. The result is the one of
+    /// [`Node::receive`] if [`PublicKey::verify`] returned these values, but the infos of a reply
+    /// aren't encoded.
     ///
     /// # Errors
     ///
     /// `Miscounted` if the number of infos of the payload that the frame encodes differs from the
     /// number of verification results. Nothing has changed.
-    ///
-    /// # Cost
-    ///
-    /// One pass over the frame, and the cost of the call.
-    pub fn receive_with_verdicts(
-        &mut self,
-        frame: Bytes,
-        now: Duration,
-        verdicts: &[bool],
-    ) -> Result<Received, Miscounted>
-        ensures seen { let wire = wire_of C.verifies C.FixedBytes C.Signature.FixedBytes in
-            IfOk result (λ r. AnswersFrameBy C.cmp wire verdicts.now frame (as_nanos now) r
-            self.old self.new) }
-        ensures unchanged { IfOk result (λ r. applies r ≡ false → self.new ≡ self.old) }
-        ensures received { let wire = wire_of C.verifies C.FixedBytes C.Signature.FixedBytes in
-            IfOk result (λ r. IsReceivedBy C.cmp wire verdicts.now frame (as_nanos now) r
-            self.old self.new) }
-        ensures counted { let wire = wire_of C.verifies C.FixedBytes C.Signature.FixedBytes in
-            let node = standing_of C.cmp wire self.old in
-            IfOk result (λ r. are_miscounted wire node frame verdicts.now ≡ true →
-            IsWantOfMemory r) }
-        ensures err { let wire = wire_of C.verifies C.FixedBytes C.Signature.FixedBytes in
-            let node = standing_of C.cmp wire self.old in
-            OnErr result (are_miscounted wire node frame verdicts.now ≡ true) }
-        ensures err_same { OnErr result (self.new ≡ self.old) }
-    {
-        self.endpoint.answer_with_verdicts(frame, now, verdicts)
-    }
-
-    /// Processes a frame that the node received at the time `now` as
-    /// [`Node::receive_with_verdicts`] does, but the infos of a reply aren't encoded.
-    ///
-    /// # Errors
-    ///
-    /// Those of [`Node::receive_with_verdicts`].
     ///
     /// # Cost
     ///
@@ -154,7 +120,7 @@ impl<C: PublicKey> Node<C> {
             OnErr result (are_miscounted wire node frame verdicts.now ≡ true) }
         ensures err_same { OnErr result (self.new ≡ self.old) }
     {
-        self.endpoint.answer_frame(frame, now, verdicts)
+        self.endpoint.answer_with_verdicts(frame, now, verdicts)
     }
 
     /// Decodes a frame that the node received, as [`Node::receive`] does: under the limits of the
@@ -187,7 +153,7 @@ impl<C: PublicKey> Node<C> {
     ///
     /// # Errors
     ///
-    /// Those of [`Node::receive_with_verdicts`].
+    /// Those of [`Node::answer_with_verdicts`].
     ///
     /// # Cost
     ///

@@ -77,7 +77,7 @@ impl<C: PublicKey> Held<C> {
         ensures length { IfSome result (λ _. length self.old ≡ length self.new + 1) }
         ensures absent { IfNone result (self.new ≡ self.old) }
     {
-        let taken = self.slots.take_out(peer);
+        let taken = self.slots.remove(peer);
         drop_empty_first(&mut self.slots);
         taken
     }
@@ -99,7 +99,7 @@ impl<C: PublicKey> Held<C> {
         ensures { ReleasesAll C.cmp self directory.old directory.new }
     {
         let Held { mut slots } = self;
-        while let Some((_, slot)) = slots.pop_first() {
+        while let Some((_, slot)) = slots.pop_last() {
             match slot {
                 Some(reservation) => directory.release(reservation),
                 None => {}

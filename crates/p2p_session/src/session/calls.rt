@@ -1,13 +1,14 @@
 //! The calls of a session that may change its node.
 
-ghost use Rattle.std.specs.Prelude.{◌≡◌};
+ghost use Rattle.std.specs.Prelude.{◌≤◌, List, ℕ, [], length};
 ghost use Rattle.p2p_session.specs.Schemes.{scheme};
 ghost use Rattle.p2p_session.specs.Given.{track_of};
 ghost use Rattle.p2p_tracker.specs.Calls.Call.{Block, Connect, Dial, ForgetCooled, Listen};
 ghost use Rattle.p2p_tracker.specs.Calls.Call.{Release, UnblockExpired};
-ghost use Rattle.p2p_session.specs.Sessions.{Answers, Fits, HasRoom, Serves, TellsRoom, Tracks};
-ghost use Rattle.p2p_session.specs.Sessions.{UpdatesPeers, at_moment, of_peer, of_peer_at};
-ghost use Rattle.p2p_session.specs.Sessions.{room_refusal, with_draw};
+ghost use Rattle.p2p_session.specs.Sessions.{Fits, Looks, Makes, OfNode, Serves, ServesRead, Tracks};
+ghost use Rattle.p2p_session.specs.Sessions.{at_moment, of_peer, of_peer_at, room_for, updated_by};
+ghost use Rattle.p2p_session.specs.Sessions.{with_draw};
+ghost use Rattle.p2p_session.specs.Sessions.Look.{Room};
 
 use crate::given::{key, moment};
 use crate::refusal::Refusal;
@@ -15,6 +16,7 @@ use crate::reply::{tell, truth_of};
 use crate::session::Session;
 use crate::{answer, commands};
 use p2p_directory::directory::TrackedPeers;
+use p2p_directory::node::Node;
 use p2p_discovery::codec::PublicKey;
 use std::alloc::Global;
 
@@ -31,66 +33,29 @@ impl<C: PublicKey> Session<C> {
         secondary: &[u8],
         torn: &mut [u8],
     ) -> u64
-        ensures { Tracks (scheme C.PublicKey C.Signature.FixedBytes) index primary.now secondary.now
-            torn.old torn.new
-            self.old self.new result }
-    {
-        if self.track_room() > torn.len() as u64 {
-            return self.without_room();
-        }
-        self.take_set(
-            alloc,
-            index,
-            commands::peers(alloc, primary, secondary),
-            torn,
-        )
-    }
-
-    // Calls the session's node to register the set, if there is a node and the peers were decoded.
-    // Writes who must be disconnected.
-    fn take_set(
-        &mut self,
-        alloc: Global,
-        index: u64,
-        peers: Result<TrackedPeers<C>, Refusal>,
-        torn: &mut [u8],
-    ) -> u64
-        ensures served { Serves (scheme C.PublicKey C.Signature.FixedBytes) (track_of index peers)
-            torn.old torn.new
+        ensures { let k = scheme C.PublicKey C.Signature.FixedBytes in OfNode (λ v v2. Tracks k
+            index primary.now secondary.now torn.old torn.new v v2 result) torn.old torn.new
             self.old.node self.new.node result }
-        ensures whole { HasRoom (scheme C.PublicKey C.Signature.FixedBytes) self.old.node torn.old →
-            Fits torn.old result }
     {
         let Some(node) = &mut self.node else {
             return Refusal::NoNode.number();
         };
-        match peers {
-            Ok(peers) => {
-                let reply = node.track(index, peers);
-                tell(alloc, reply, torn)
-            }
-            Err(refusal) => refusal.number(),
+        if answer::size_of_keys::<C>(node.directory().tracked()) > torn.len() as u64 {
+            return Refusal::NoRoom.number();
         }
+        let peers = commands::peers(alloc, primary, secondary);
+        take_set(alloc, node, index, peers, torn)
     }
 
     /// How long the buffer of the session's call `track` must be: the size of the keys of all peers
     /// with a record.
     #[inline(never)]
     pub fn track_room(&mut self) -> u64
-        ensures { TellsRoom (scheme C.PublicKey C.Signature.FixedBytes) self.old self.new result }
+        ensures { let k = scheme C.PublicKey C.Signature.FixedBytes in (out : List ℕ) → Looks k
+            Room out out self.old.node self.new.node result }
     {
         match &self.node {
             Some(node) => answer::size_of_keys::<C>(node.directory().tracked()),
-            None => Refusal::NoNode.number(),
-        }
-    }
-
-    // Why a call of a session with too short a buffer isn't made.
-    fn without_room(&self) -> u64
-        ensures { result ≡ room_refusal self.now.node }
-    {
-        match &self.node {
-            Some(_node) => Refusal::NoRoom.number(),
             None => Refusal::NoNode.number(),
         }
     }
@@ -105,9 +70,9 @@ impl<C: PublicKey> Session<C> {
         draw_seconds: u64,
         draw_nanos: u32,
     ) -> u64
-        ensures { let k = scheme C.PublicKey C.Signature.FixedBytes in Answers k (with_draw k
-            peer.now seconds nanos draw_seconds draw_nanos (λ p now draw. Dial p now draw))
-            self.old self.new result }
+        ensures { let k = scheme C.PublicKey C.Signature.FixedBytes in Serves k (with_draw k
+            peer.now seconds nanos draw_seconds draw_nanos (λ p now draw. Dial p now draw)) [] []
+            self.old.node self.new.node result }
     {
         let Some(node) = &mut self.node else {
             return Refusal::NoNode.number();
@@ -135,9 +100,9 @@ impl<C: PublicKey> Session<C> {
         draw_seconds: u64,
         draw_nanos: u32,
     ) -> u64
-        ensures { let k = scheme C.PublicKey C.Signature.FixedBytes in Answers k (with_draw k
-            peer.now seconds nanos draw_seconds draw_nanos (λ p now draw. Listen p now draw))
-            self.old self.new result }
+        ensures { let k = scheme C.PublicKey C.Signature.FixedBytes in Serves k (with_draw k
+            peer.now seconds nanos draw_seconds draw_nanos (λ p now draw. Listen p now draw)) []
+            [] self.old.node self.new.node result }
     {
         let Some(node) = &mut self.node else {
             return Refusal::NoNode.number();
@@ -158,8 +123,8 @@ impl<C: PublicKey> Session<C> {
     /// Calls `Directory::connect` of the session's node. Returns 1, or `NotReserved`.
     #[inline(never)]
     pub fn connect(&mut self, peer: &[u8], dialer: bool) -> u64
-        ensures { let k = scheme C.PublicKey C.Signature.FixedBytes in Answers k (of_peer k
-            peer.now (λ p. Connect p dialer)) self.old self.new result }
+        ensures { let k = scheme C.PublicKey C.Signature.FixedBytes in Serves k (of_peer k
+            peer.now (λ p. Connect p dialer)) [] [] self.old.node self.new.node result }
     {
         let Some(node) = &mut self.node else {
             return Refusal::NoNode.number();
@@ -178,8 +143,8 @@ impl<C: PublicKey> Session<C> {
     /// or `NotHeld`.
     #[inline(never)]
     pub fn release(&mut self, peer: &[u8]) -> u64
-        ensures { let k = scheme C.PublicKey C.Signature.FixedBytes in Answers k (of_peer k
-            peer.now (λ p. Release p)) self.old self.new result }
+        ensures { let k = scheme C.PublicKey C.Signature.FixedBytes in Serves k (of_peer k
+            peer.now (λ p. Release p)) [] [] self.old.node self.new.node result }
     {
         let Some(node) = &mut self.node else {
             return Refusal::NoNode.number();
@@ -198,8 +163,8 @@ impl<C: PublicKey> Session<C> {
     /// encode as a list. Returns 1. The host must have made or verified the infos itself.
     #[inline(never)]
     pub fn update_peers(&mut self, alloc: Global, infos: &[u8]) -> u64
-        ensures { UpdatesPeers (scheme C.PublicKey C.Signature.FixedBytes) infos.now self.old
-            self.new result }
+        ensures { let k = scheme C.PublicKey C.Signature.FixedBytes in ServesRead k (updated_by k
+            infos.now) [] [] self.old.node self.new.node result }
     {
         self.serve(commands::update_peers(alloc, infos), &mut [])
     }
@@ -207,8 +172,9 @@ impl<C: PublicKey> Session<C> {
     /// Calls `Directory::block` of the session's node. Returns 1 if the block takes effect, else 0.
     #[inline(never)]
     pub fn block(&mut self, peer: &[u8], seconds: u64, nanos: u32) -> u64
-        ensures { let k = scheme C.PublicKey C.Signature.FixedBytes in Answers k (of_peer_at k
-            peer.now seconds nanos (λ p now. Block p now)) self.old self.new result }
+        ensures { let k = scheme C.PublicKey C.Signature.FixedBytes in Serves k (of_peer_at k
+            peer.now seconds nanos (λ p now. Block p now)) [] [] self.old.node self.new.node
+            result }
     {
         let Some(node) = &mut self.node else {
             return Refusal::NoNode.number();
@@ -228,8 +194,8 @@ impl<C: PublicKey> Session<C> {
     /// 0.
     #[inline(never)]
     pub fn unblock_expired(&mut self, seconds: u64, nanos: u32) -> u64
-        ensures { Answers (scheme C.PublicKey C.Signature.FixedBytes) (at_moment seconds nanos (λ
-            now. UnblockExpired now)) self.old self.new result }
+        ensures { let k = scheme C.PublicKey C.Signature.FixedBytes in Serves k (at_moment seconds
+            nanos (λ now. UnblockExpired now)) [] [] self.old.node self.new.node result }
     {
         let Some(node) = &mut self.node else {
             return Refusal::NoNode.number();
@@ -244,8 +210,8 @@ impl<C: PublicKey> Session<C> {
     /// forgotten.
     #[inline(never)]
     pub fn forget_cooled(&mut self, seconds: u64, nanos: u32) -> u64
-        ensures { Answers (scheme C.PublicKey C.Signature.FixedBytes) (at_moment seconds nanos (λ
-            now. ForgetCooled now)) self.old self.new result }
+        ensures { let k = scheme C.PublicKey C.Signature.FixedBytes in Serves k (at_moment seconds
+            nanos (λ now. ForgetCooled now)) [] [] self.old.node self.new.node result }
     {
         let Some(node) = &mut self.node else {
             return Refusal::NoNode.number();
@@ -254,5 +220,28 @@ impl<C: PublicKey> Session<C> {
             Ok(now) => node.forget_cooled(now) as u64,
             Err(refusal) => refusal.number(),
         }
+    }
+}
+
+// Calls the session's node to register the set, if the peers were decoded. Writes who must be
+// disconnected.
+fn take_set<C: PublicKey>(
+    alloc: Global,
+    node: &mut Node<C>,
+    index: u64,
+    peers: Result<TrackedPeers<C>, Refusal>,
+    torn: &mut [u8],
+) -> u64
+    ensures served { Makes (scheme C.PublicKey C.Signature.FixedBytes) (track_of index peers)
+        torn.old torn.new node.old node.new result }
+    ensures whole { room_for (scheme C.PublicKey C.Signature.FixedBytes) node.old ≤ length torn.old →
+        Fits torn.old result }
+{
+    match peers {
+        Ok(peers) => {
+            let reply = node.track(index, peers);
+            tell(alloc, reply, torn)
+        }
+        Err(refusal) => refusal.number(),
     }
 }

@@ -1,15 +1,15 @@
 //! Questions to a session's node: the calls that change nothing.
 
-ghost use Rattle.std.specs.Prelude.{Ok};
+ghost use Rattle.std.specs.Prelude.{List, ℕ, Ok, []};
 ghost use Rattle.p2p_session.specs.Schemes.{scheme};
 ghost use Rattle.p2p_tracker.specs.Calls.Call.{Ask};
 ghost use Rattle.p2p_tracker.specs.Calls.Question.{AllPeers, BitsAt, BlockedAt, DialableAt};
 ghost use Rattle.p2p_tracker.specs.Calls.Question.{InfoOf, IsAcceptable, IsEligible, LatestIndex};
 ghost use Rattle.p2p_tracker.specs.Calls.Question.{LatestUpdate, NextUnblock, NumberTracked};
 ghost use Rattle.p2p_tracker.specs.Calls.Question.{PeerSet, StatusOf};
-ghost use Rattle.p2p_session.specs.Sessions.{Answers, TellsInfos, TellsNextCooled};
-ghost use Rattle.p2p_session.specs.Sessions.{TellsReservation, TellsRetained, Writes, at_moment};
+ghost use Rattle.p2p_session.specs.Sessions.{Looks, Serves, ServesRead, at_moment, infos_for};
 ghost use Rattle.p2p_session.specs.Sessions.{of_peer, of_peer_at};
+ghost use Rattle.p2p_session.specs.Sessions.Look.{Held, NextCooled, Retained};
 
 use crate::commands;
 use crate::given::{key, moment};
@@ -32,8 +32,8 @@ impl<C: PublicKey> Session<C> {
         nanos: u32,
         out: &mut [u8],
     ) -> u64
-        ensures { TellsInfos (scheme C.PublicKey C.Signature.FixedBytes) bits.now seconds nanos
-            out.old out.new self.old self.new result }
+        ensures { let k = scheme C.PublicKey C.Signature.FixedBytes in ServesRead k (infos_for k
+            bits.now seconds nanos) out.old out.new self.old.node self.new.node result }
     {
         self.serve(commands::infos_for(alloc, bits, seconds, nanos), out)
     }
@@ -41,8 +41,8 @@ impl<C: PublicKey> Session<C> {
     /// Asks the session's node by `Directory::next_unblock`: the time, or `None`.
     #[inline(never)]
     pub fn next_unblock(&mut self, out: &mut [u8]) -> u64
-        ensures { Writes (scheme C.PublicKey C.Signature.FixedBytes) (Ok (Ask NextUnblock)) out.old
-            out.new self.old self.new result }
+        ensures { let k = scheme C.PublicKey C.Signature.FixedBytes in Serves k (Ok (Ask
+            NextUnblock)) out.old out.new self.old.node self.new.node result }
     {
         let Some(node) = &self.node else {
             return Refusal::NoNode.number();
@@ -53,8 +53,8 @@ impl<C: PublicKey> Session<C> {
     /// Asks the session's node by `Directory::blocked_peers`: their keys.
     #[inline(never)]
     pub fn blocked_peers(&mut self, seconds: u64, nanos: u32, out: &mut [u8]) -> u64
-        ensures { Writes (scheme C.PublicKey C.Signature.FixedBytes) (at_moment seconds nanos (λ
-            now. Ask (BlockedAt now))) out.old out.new self.old self.new result }
+        ensures { let k = scheme C.PublicKey C.Signature.FixedBytes in Serves k (at_moment seconds
+            nanos (λ now. Ask (BlockedAt now))) out.old out.new self.old.node self.new.node result }
     {
         self.serve(commands::blocked_peers(seconds, nanos), out)
     }
@@ -63,8 +63,8 @@ impl<C: PublicKey> Session<C> {
     /// `Active`, or `None`.
     #[inline(never)]
     pub fn status(&mut self, peer: &[u8]) -> u64
-        ensures { let k = scheme C.PublicKey C.Signature.FixedBytes in Answers k (of_peer k
-            peer.now (λ p. Ask (StatusOf p))) self.old self.new result }
+        ensures { let k = scheme C.PublicKey C.Signature.FixedBytes in Serves k (of_peer k
+            peer.now (λ p. Ask (StatusOf p))) [] [] self.old.node self.new.node result }
     {
         let Some(node) = &self.node else {
             return Refusal::NoNode.number();
@@ -79,8 +79,8 @@ impl<C: PublicKey> Session<C> {
     /// keys, and the keys of the secondary peers, or `None`.
     #[inline(never)]
     pub fn get_peer_set(&mut self, index: u64, out: &mut [u8]) -> u64
-        ensures { Writes (scheme C.PublicKey C.Signature.FixedBytes) (Ok (Ask (PeerSet index)))
-            out.old out.new self.old self.new result }
+        ensures { let k = scheme C.PublicKey C.Signature.FixedBytes in Serves k (Ok (Ask (PeerSet
+            index))) out.old out.new self.old.node self.new.node result }
     {
         self.serve(Ok(Command::GetPeerSet(index)), out)
     }
@@ -88,8 +88,8 @@ impl<C: PublicKey> Session<C> {
     /// Asks the session's node by `Directory::latest_set_index`: the index, or `None`.
     #[inline(never)]
     pub fn latest_set_index(&mut self, out: &mut [u8]) -> u64
-        ensures { Writes (scheme C.PublicKey C.Signature.FixedBytes) (Ok (Ask LatestIndex)) out.old
-            out.new self.old self.new result }
+        ensures { let k = scheme C.PublicKey C.Signature.FixedBytes in Serves k (Ok (Ask
+            LatestIndex)) out.old out.new self.old.node self.new.node result }
     {
         let Some(node) = &self.node else {
             return Refusal::NoNode.number();
@@ -102,8 +102,8 @@ impl<C: PublicKey> Session<C> {
     /// `None`.
     #[inline(never)]
     pub fn latest_update(&mut self, out: &mut [u8]) -> u64
-        ensures { Writes (scheme C.PublicKey C.Signature.FixedBytes) (Ok (Ask LatestUpdate))
-            out.old out.new self.old self.new result }
+        ensures { let k = scheme C.PublicKey C.Signature.FixedBytes in Serves k (Ok (Ask
+            LatestUpdate)) out.old out.new self.old.node self.new.node result }
     {
         self.serve(Ok(Command::LatestUpdate), out)
     }
@@ -112,8 +112,8 @@ impl<C: PublicKey> Session<C> {
     /// the keys of the secondary peers.
     #[inline(never)]
     pub fn all(&mut self, out: &mut [u8]) -> u64
-        ensures { Writes (scheme C.PublicKey C.Signature.FixedBytes) (Ok (Ask AllPeers)) out.old
-            out.new self.old self.new result }
+        ensures { let k = scheme C.PublicKey C.Signature.FixedBytes in Serves k (Ok (Ask
+            AllPeers)) out.old out.new self.old.node self.new.node result }
     {
         self.serve(Ok(Command::All), out)
     }
@@ -121,8 +121,8 @@ impl<C: PublicKey> Session<C> {
     /// Asks the session's node by `Directory::info`: the encoded info, or `None`.
     #[inline(never)]
     pub fn info(&mut self, _alloc: Global, peer: &[u8], out: &mut [u8]) -> u64
-        ensures { let k = scheme C.PublicKey C.Signature.FixedBytes in Writes k (of_peer k peer.now
-            (λ p. Ask (InfoOf p))) out.old out.new self.old self.new result }
+        ensures { let k = scheme C.PublicKey C.Signature.FixedBytes in Serves k (of_peer k
+            peer.now (λ p. Ask (InfoOf p))) out.old out.new self.old.node self.new.node result }
     {
         self.serve(commands::info(peer), out)
     }
@@ -131,8 +131,8 @@ impl<C: PublicKey> Session<C> {
     /// index, or `None`.
     #[inline(never)]
     pub fn get_random_bit_vec(&mut self, _alloc: Global, place: u64, out: &mut [u8]) -> u64
-        ensures { Writes (scheme C.PublicKey C.Signature.FixedBytes) (Ok (Ask (BitsAt place)))
-            out.old out.new self.old self.new result }
+        ensures { let k = scheme C.PublicKey C.Signature.FixedBytes in Serves k (Ok (Ask (BitsAt
+            place))) out.old out.new self.old.node self.new.node result }
     {
         self.serve(Ok(Command::GetRandomBitVec(place as usize)), out)
     }
@@ -140,8 +140,9 @@ impl<C: PublicKey> Session<C> {
     /// Asks the session's node by `Directory::eligible`: 1 or 0.
     #[inline(never)]
     pub fn eligible(&mut self, peer: &[u8], seconds: u64, nanos: u32) -> u64
-        ensures { let k = scheme C.PublicKey C.Signature.FixedBytes in Answers k (of_peer_at k
-            peer.now seconds nanos (λ p now. Ask (IsEligible p now))) self.old self.new result }
+        ensures { let k = scheme C.PublicKey C.Signature.FixedBytes in Serves k (of_peer_at k
+            peer.now seconds nanos (λ p now. Ask (IsEligible p now))) [] [] self.old.node
+            self.new.node result }
     {
         let Some(node) = &self.node else {
             return Refusal::NoNode.number();
@@ -156,8 +157,9 @@ impl<C: PublicKey> Session<C> {
     /// Asks the session's node by `Directory::acceptable`: 1 or 0.
     #[inline(never)]
     pub fn acceptable(&mut self, peer: &[u8], seconds: u64, nanos: u32) -> u64
-        ensures { let k = scheme C.PublicKey C.Signature.FixedBytes in Answers k (of_peer_at k
-            peer.now seconds nanos (λ p now. Ask (IsAcceptable p now))) self.old self.new result }
+        ensures { let k = scheme C.PublicKey C.Signature.FixedBytes in Serves k (of_peer_at k
+            peer.now seconds nanos (λ p now. Ask (IsAcceptable p now))) [] [] self.old.node
+            self.new.node result }
     {
         let Some(node) = &self.node else {
             return Refusal::NoNode.number();
@@ -173,8 +175,9 @@ impl<C: PublicKey> Session<C> {
     /// time, and the keys.
     #[inline(never)]
     pub fn dialable(&mut self, seconds: u64, nanos: u32, out: &mut [u8]) -> u64
-        ensures { Writes (scheme C.PublicKey C.Signature.FixedBytes) (at_moment seconds nanos (λ
-            now. Ask (DialableAt now))) out.old out.new self.old self.new result }
+        ensures { let k = scheme C.PublicKey C.Signature.FixedBytes in Serves k (at_moment seconds
+            nanos (λ now. Ask (DialableAt now))) out.old out.new self.old.node self.new.node
+            result }
     {
         self.serve(commands::dialable(seconds, nanos), out)
     }
@@ -183,8 +186,8 @@ impl<C: PublicKey> Session<C> {
     /// local node.
     #[inline(never)]
     pub fn tracked(&mut self) -> u64
-        ensures { Answers (scheme C.PublicKey C.Signature.FixedBytes) (Ok (Ask NumberTracked))
-            self.old self.new result }
+        ensures { let k = scheme C.PublicKey C.Signature.FixedBytes in Serves k (Ok (Ask
+            NumberTracked)) [] [] self.old.node self.new.node result }
     {
         let Some(node) = &self.node else {
             return Refusal::NoNode.number();
@@ -195,8 +198,8 @@ impl<C: PublicKey> Session<C> {
     /// Asks the session's node by `Directory::retained`. Returns the number of retained sets.
     #[inline(never)]
     pub fn retained(&mut self) -> u64
-        ensures { TellsRetained (scheme C.PublicKey C.Signature.FixedBytes)
-            self.old self.new result }
+        ensures { let k = scheme C.PublicKey C.Signature.FixedBytes in (out : List ℕ) → Looks k
+            Retained out out self.old.node self.new.node result }
     {
         let Some(node) = &self.node else {
             return Refusal::NoNode.number();
@@ -207,8 +210,8 @@ impl<C: PublicKey> Session<C> {
     /// Asks the session's node by `Directory::next_cooled`: the time, or `None`.
     #[inline(never)]
     pub fn next_cooled(&mut self, out: &mut [u8]) -> u64
-        ensures { TellsNextCooled (scheme C.PublicKey C.Signature.FixedBytes) out.old out.new
-            self.old self.new result }
+        ensures { let k = scheme C.PublicKey C.Signature.FixedBytes in Looks k NextCooled out.old
+            out.new self.old.node self.new.node result }
     {
         let Some(node) = &self.node else {
             return Refusal::NoNode.number();
@@ -221,8 +224,8 @@ impl<C: PublicKey> Session<C> {
     /// allocates nothing.
     #[inline(never)]
     pub fn reservation(&mut self, peer: &[u8], out: &mut [u8]) -> u64
-        ensures { TellsReservation (scheme C.PublicKey C.Signature.FixedBytes) peer.now out.old
-            out.new self.old self.new result }
+        ensures { let k = scheme C.PublicKey C.Signature.FixedBytes in Looks k (Held peer.now)
+            out.old out.new self.old.node self.new.node result }
     {
         let Some(node) = &self.node else {
             return Refusal::NoNode.number();

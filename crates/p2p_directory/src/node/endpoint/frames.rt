@@ -28,7 +28,7 @@ use std::time::Duration;
 
 impl<C: PublicKey> Endpoint<C> {
     /// Processes a frame that the endpoint received at this time.
-    pub fn answer(&mut self, frame: Bytes, now: Duration) -> Received
+    pub fn answer(&mut self, frame: Bytes, now: Duration) -> Received<C>
         ensures seen { AnswersFrame C.cmp (wire_of C.verifies C.FixedBytes C.Signature.FixedBytes)
             frame (as_nanos now) result (node_of self.old) (node_of self.new) }
         ensures unchanged { applies result ≡ false → self.new ≡ self.old }
@@ -48,37 +48,8 @@ impl<C: PublicKey> Endpoint<C> {
 
     /// Processes a frame that the endpoint received at this time, given whether the signatures of
     /// its infos are valid. There must be as many verification results as infos in the frame, if it
-    /// encodes a payload.
+    /// encodes a payload. The infos of a reply aren't encoded.
     pub fn answer_with_verdicts(
-        &mut self,
-        frame: Bytes,
-        now: Duration,
-        verdicts: &[bool],
-    ) -> Result<Received, Miscounted>
-        ensures seen { let wire = wire_of C.verifies C.FixedBytes C.Signature.FixedBytes in
-            IfOk result (λ r. AnswersFrameBy C.cmp wire verdicts.now frame (as_nanos now) r
-            (node_of self.old) (node_of self.new)) }
-        ensures unchanged { IfOk result (λ r. applies r ≡ false → self.new ≡ self.old) }
-        ensures counted { let wire = wire_of C.verifies C.FixedBytes C.Signature.FixedBytes in
-            let node = standing_of C.cmp wire (node_of self.old) in
-            IfOk result (λ r. are_miscounted wire node frame verdicts.now ≡ true →
-            IsWantOfMemory r) }
-        ensures err { let wire = wire_of C.verifies C.FixedBytes C.Signature.FixedBytes in
-            let node = standing_of C.cmp wire (node_of self.old) in
-            OnErr result (are_miscounted wire node frame verdicts.now ≡ true) }
-        ensures err_same { OnErr result (self.new ≡ self.old) }
-        ensures slots { self.new.slots ≡ self.old.slots }
-    {
-        let alloc = self.server.directory().allocator();
-        match Payload::<C>::decode_cfg(alloc, frame, &self.payload) {
-            Ok(payload) => self.answer_payload_by(payload, now, verdicts),
-            Err(fault) => Ok(refused(fault)),
-        }
-    }
-
-    /// Processes a frame that the endpoint received as [`Endpoint::answer_with_verdicts`] does, but
-    /// the infos of a reply aren't encoded.
-    pub fn answer_frame(
         &mut self,
         frame: Bytes,
         now: Duration,
@@ -108,7 +79,8 @@ impl<C: PublicKey> Endpoint<C> {
     }
 
     /// Processes a frame that the endpoint received and that was decoded, as
-    /// [`Endpoint::answer_frame`] does. It is decoded anew if that was done under other limits.
+    /// [`Endpoint::answer_with_verdicts`] does. It is decoded anew if that was done under other
+    /// limits.
     pub fn answer_decoded(
         &mut self,
         decoded: Decoded<C>,
@@ -136,40 +108,7 @@ impl<C: PublicKey> Endpoint<C> {
             drop(frame);
             return self.answer_payload(payload, now, verdicts);
         }
-        self.answer_frame(frame, now, verdicts)
-    }
-
-    // Processes the payload of a frame that the endpoint received, given whether the signatures of
-    // its infos are valid.
-    fn answer_payload_by(
-        &mut self,
-        payload: Payload<C>,
-        now: Duration,
-        verdicts: &[bool],
-    ) -> Result<Received, Miscounted>
-        requires admitted { IsAdmitted C.IsValue C.Signature.IsValue self.old.limits payload }
-        requires limit { self.old.limits.max_bit_vec < 2 ^ 32 }
-        ensures seen { let wire = wire_of C.verifies C.FixedBytes C.Signature.FixedBytes in
-            let o = answered_by wire verdicts.now (standing_of C.cmp wire (node_of self.old))
-            (as_nanos now) payload in
-            IfOk result (λ r. Answers C.cmp (takes_room o.answer) o r (node_of self.old)
-            (node_of self.new)) }
-        ensures unchanged { IfOk result (λ r. applies r ≡ false → self.new ≡ self.old) }
-        ensures counted { IfOk result (λ _.
-            length (infos_of_payload payload) ≡ length verdicts.now) }
-        ensures err { OnErr result (¬ (length (infos_of_payload payload) ≡ length verdicts.now)) }
-        ensures err_same { OnErr result (self.new ≡ self.old) }
-        ensures slots { self.new.slots ≡ self.old.slots }
-    {
-        if count_infos(&payload) != verdicts.len() {
-            return Err(Miscounted);
-        }
-        Ok(match payload {
-            Payload::Data(message) => Received::Data(message),
-            Payload::Greeting(info) => self.greet_by(info, now, is_first_right(verdicts)),
-            Payload::BitVec(bits) => self.reply(&bits, now),
-            Payload::Peers(infos) => self.take_by(infos, now, verdicts),
-        })
+        self.answer_with_verdicts(frame, now, verdicts)
     }
 
     // Processes the payload of a frame that the endpoint received, given whether the signatures of
@@ -196,11 +135,18 @@ impl<C: PublicKey> Endpoint<C> {
         ensures err_same { OnErr result (self.new ≡ self.old) }
         ensures slots { self.new.slots ≡ self.old.slots }
     {
-        match payload {
-            Payload::BitVec(_) if !verdicts.is_empty() => Err(Miscounted),
-            Payload::BitVec(bits) => Ok(self.infos_for(&bits, now)),
-            payload => Ok(Answer::Received(self.answer_payload_by(payload, now, verdicts)?)),
+        if count_infos(&payload) != verdicts.len() {
+            return Err(Miscounted);
         }
+        Ok(match payload {
+            Payload::Data(message) => Answer::Received(Received::Data(message)),
+            Payload::Greeting(info) => {
+                let right = is_first_right(verdicts);
+                Answer::Received(self.greet_by(info, now, right))
+            }
+            Payload::BitVec(bits) => self.infos_for(&bits, now),
+            Payload::Peers(infos) => Answer::Received(self.take_by(infos, now, verdicts)),
+        })
     }
 
     // The infos with which the endpoint answers a frame of bits.
@@ -221,7 +167,7 @@ impl<C: PublicKey> Endpoint<C> {
     }
 
     // Verifies the info of a greeting frame that the endpoint received, and applies it.
-    fn greet(&mut self, info: Info<C>, now: Duration) -> Received
+    fn greet(&mut self, info: Info<C>, now: Duration) -> Received<C>
         ensures unchanged { applies result ≡ false → self.new ≡ self.old }
         ensures seen { let o = greeted (wire_of C.verifies C.FixedBytes C.Signature.FixedBytes) info
             (refusal (judge_of C.cmp C.verifies self.old.verifier) (as_nanos now) info) in
@@ -236,7 +182,7 @@ impl<C: PublicKey> Endpoint<C> {
 
     // Verifies the info of a greeting frame that the endpoint received, given whether its signature
     // is valid, and applies it.
-    fn greet_by(&mut self, info: Info<C>, now: Duration, right: bool) -> Received
+    fn greet_by(&mut self, info: Info<C>, now: Duration, right: bool) -> Received<C>
         ensures unchanged { applies result ≡ false → self.new ≡ self.old }
         ensures seen { let o = greeted (wire_of C.verifies C.FixedBytes C.Signature.FixedBytes) info
             (refusal_if (judge_of C.cmp C.verifies self.old.verifier) right (as_nanos now) info) in
@@ -250,7 +196,7 @@ impl<C: PublicKey> Endpoint<C> {
     }
 
     // Applies the info of a greeting frame that the endpoint received.
-    fn apply_greeting(&mut self, info: Info<C>) -> Received
+    fn apply_greeting(&mut self, info: Info<C>) -> Received<C>
         ensures unchanged { applies result ≡ false → self.new ≡ self.old }
         ensures seen { let wire = wire_of C.verifies C.FixedBytes C.Signature.FixedBytes in
             Answers C.cmp true (greeted wire info None) result
@@ -259,16 +205,17 @@ impl<C: PublicKey> Endpoint<C> {
     {
         match Vec::with_capacity(self.server.directory().allocator(), 1) {
             Ok(mut infos) => {
+                let key = info.public_key;
                 infos.push_reserved(info);
                 self.server.update(infos);
-                Received::Greeted
+                Received::Greeted(key)
             }
             Err(AllocError) => Received::Memory,
         }
     }
 
     // Replies to a frame of bits that the endpoint received with the infos for them.
-    fn reply(&self, bits: &BitVec, now: Duration) -> Received
+    fn reply(&self, bits: &BitVec, now: Duration) -> Received<C>
         requires { length bits.now.bits < 2 ^ 32 }
         ensures seen { let o = replied (wire_of C.verifies C.FixedBytes C.Signature.FixedBytes)
             (infos_in C.cmp self.now.directory bits.now.index bits.now.bits (as_nanos now)) in
@@ -314,7 +261,7 @@ impl<C: PublicKey> Endpoint<C> {
     }
 
     // Verifies the infos of a frame that the endpoint received, all of them, and applies them.
-    fn take(&mut self, infos: Infos<C>, now: Duration) -> Received
+    fn take(&mut self, infos: Infos<C>, now: Duration) -> Received<C>
         ensures unchanged { applies result ≡ false → self.new ≡ self.old }
         ensures seen { let wire = wire_of C.verifies C.FixedBytes C.Signature.FixedBytes in
             Answers C.cmp false (taken wire infos (list_refusal
@@ -330,7 +277,7 @@ impl<C: PublicKey> Endpoint<C> {
 
     // Verifies the infos of a frame that the endpoint received, all of them, given whether their
     // signatures are valid, and applies them.
-    fn take_by(&mut self, infos: Infos<C>, now: Duration, verdicts: &[bool]) -> Received
+    fn take_by(&mut self, infos: Infos<C>, now: Duration, verdicts: &[bool]) -> Received<C>
         ensures unchanged { applies result ≡ false → self.new ≡ self.old }
         ensures seen { let wire = wire_of C.verifies C.FixedBytes C.Signature.FixedBytes in
             Answers C.cmp false (taken wire infos (list_refusal_by
@@ -348,7 +295,7 @@ impl<C: PublicKey> Endpoint<C> {
     }
 
     // Applies the infos of a frame that the endpoint received.
-    fn apply(&mut self, infos: Infos<C>) -> Received
+    fn apply(&mut self, infos: Infos<C>) -> Received<C>
         ensures unchanged { applies result ≡ false → self.new ≡ self.old }
         ensures seen { let wire = wire_of C.verifies C.FixedBytes C.Signature.FixedBytes in
             Answers C.cmp false (taken wire infos None) result
@@ -385,7 +332,7 @@ fn is_first_right(verdicts: &[bool]) -> bool
 }
 
 // What the endpoint returns for a received frame that isn't decoded, its error or out of memory.
-fn refused(fault: CodecError) -> Received
+fn refused<C: PublicKey>(fault: CodecError) -> Received<C>
     ensures { result ≡ fault_answer fault }
 {
     match fault {

@@ -40,7 +40,7 @@ pub enum NetworkReply<C: PublicKey> {
     /// The frame that was asked for, if there is a set at the position.
     Ask(Option<Bytes>),
     /// The result of a frame.
-    Frame(Received),
+    Frame(Received<C>),
     /// The result of an exchange.
     Exchange(Exchanged<C>),
     /// The allocation for the frame of an `Ask` failed. Nothing has changed.

@@ -6,7 +6,7 @@ use Rattle.p2p_tracker.specs.Seen.{record_of}
 use Rattle.p2p_directory.specs.Held.{held_of, after_release}
 use Rattle.p2p_directory.specs.Private.Slots.{held_in}
 use Rattle.p2p_directory.proofs.Reservations.Holding.{held_by_release, given_back}
-use Rattle.p2p_directory.proofs.Reservations.Listed.{first_found, slots_popped, held_popped, held_untouched}
+use Rattle.p2p_directory.proofs.Reservations.Removed.{held_untouched}
 use Rattle.p2p_directory.proofs.Reservations.Slots.{held_is, key_is}
 use Rattle.p2p_directory.proofs.run.held.Held.release_all.Goals as goal
 
@@ -33,8 +33,7 @@ release-requires g c =
     let old = c.loop-slot.slots in
     let peer = c.in-Some.field-0-0 in
     let m = c.in-Some-slot.reservation in
-    let at = first_found total exact (peer, c.in-Some.slot) old c.pop_first.new.self c.loop-slot.invariant.slots
-    c.in-Some.ensures.first ∙ ap Some c.in-Some-slot.is in
+    let at = c.in-Some.ensures.found ∙ ap Some c.in-Some-slot.is in
     subst (IsBusy cmp c.loop-slot.directory) (sym (key_is total exact old peer m c.loop-slot.invariant.slots at))
     (sym (c.loop-slot.invariant.agree peer) ∙ ap (λ o. is_some (option_flatten o)) at)
 
@@ -45,15 +44,12 @@ loop-slot-preserved g c =
     let total = g.met.C.Ord.total in
     let exact = g.met.C.PublicKey.exact in
     let old = c.loop-slot.slots in
-    let new = c.pop_first.new.self in
+    let new = c.pop_last.new.self in
     let peer = c.in-Some.field-0-0 in
-    let first = c.in-Some.ensures.first in
-    let at = first_found total exact (peer, c.in-Some.slot) old new c.loop-slot.invariant.slots first
-    ∙ ap Some c.in-None.is in
-    let same = held_untouched total exact old new peer
-    (held_popped total exact (peer, c.in-Some.slot) old new c.loop-slot.invariant.slots first) (ap option_flatten at) in
+    let at = c.in-Some.ensures.found ∙ ap Some c.in-None.is in
+    let same = held_untouched total exact old new peer c.in-Some.ensures.left (ap option_flatten at) in
     record {
-      slots = slots_popped total exact (peer, c.in-Some.slot) old new c.loop-slot.invariant.slots first;
+      slots = c.pop_last.ensures.ordered;
       agree = λ q. ap is_some (same q) ∙ c.loop-slot.invariant.agree q;
       config = c.loop-slot.invariant.config;
       sets = c.loop-slot.invariant.sets;
@@ -71,16 +67,14 @@ loop-slot-preserved-in-Some-slot g c =
     let d = c.loop-slot.directory in
     let d2 = c.release.new.self in
     let old = c.loop-slot.slots in
-    let new = c.pop_first.new.self in
+    let new = c.pop_last.new.self in
     let peer = c.in-Some.field-0-0 in
     let m = c.in-Some-slot.reservation in
-    let first = c.in-Some.ensures.first in
-    let at = first_found total exact (peer, c.in-Some.slot) old new c.loop-slot.invariant.slots first
-    ∙ ap Some c.in-Some-slot.is in
+    let at = c.in-Some.ensures.found ∙ ap Some c.in-Some-slot.is in
     let change = rw (key_is total exact old peer m c.loop-slot.invariant.slots at) at c.release.ensures.released in
-    let left = held_popped total exact (peer, c.in-Some.slot) old new c.loop-slot.invariant.slots first in
+    let left = c.in-Some.ensures.left in
     record {
-      slots = slots_popped total exact (peer, c.in-Some.slot) old new c.loop-slot.invariant.slots first;
+      slots = c.pop_last.ensures.ordered;
       agree = held_by_release cmp d d2 peer m (held_in cmp old) (held_in cmp new) c.loop-slot.invariant.agree change left;
       config = change.config ∙ c.loop-slot.invariant.config;
       sets = change.sets ∙ c.loop-slot.invariant.sets;

@@ -1,5 +1,5 @@
 use Rattle.p2p_tracker.proofs.SetsAndRecords.Searches.{has_found}
-use Rattle.p2p_directory.proofs.run.slots.tree.Tree.infos.Goals as goal
+use Rattle.p2p_directory.proofs.run.slots.Slots.infos.Goals as goal
 
 pub infos_among-requires : goal.infos_among-requires
 infos_among-requires g c = λ q busy.

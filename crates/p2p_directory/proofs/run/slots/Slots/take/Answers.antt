@@ -2,7 +2,7 @@ use Rattle.std.proofs.Common.{◌≡◌, Bool, List, Option, None, Some, IfNone,
 use Rattle.std.specs.BTreeMap.{is_at}
 use Rattle.std.specs.Map.{lookup, set_value}
 use Rattle.std.proofs.lemmas.Map.Steps.{set_value_same}
-use Rattle.p2p_directory.proofs.run.slots.tree.Tree.take.Goals as goal
+use Rattle.p2p_directory.proofs.run.slots.Slots.take.Goals as goal
 
 -- nothing is written where there was nothing
 same : {K X : Type 0} (test : K → Bool) (es fs old : List (K × Option X)) (v w r : Option X) →

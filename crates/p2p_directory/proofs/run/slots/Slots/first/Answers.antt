@@ -1,6 +1,6 @@
 use Rattle.std.proofs.Common.{◌≡◌, Some, subst}
 use Rattle.std.specs.Prelude.{slice_get}
-use Rattle.p2p_directory.proofs.run.slots.tree.Tree.first.Goals as goal
+use Rattle.p2p_directory.proofs.run.slots.Slots.first.Goals as goal
 
 pub returns-in-Some-clause-some : goal.returns-in-Some-clause-some
 returns-in-Some-clause-some g c = (
