@@ -1,18 +1,19 @@
-// Runs examples/session.c, and then each call with 1,000 peers, in threads whose stack has half of P2P_SESSION_STACK,
-// with a page below it that nobody may touch. Says how many bytes of it were written, those of the C library included.
+// Runs examples/session.c, and then each call with 1,000 peers, on stacks of half of P2P_SESSION_STACK, with a page below
+// each that nobody may touch. Says how many bytes of it were written, those of the C library included.
 //
-// tools/host_c.sh compiles it with the example, whose main is session_main then.
+// tools/host_c.sh and tools/other_targets.sh compile it with the example, whose main is session_main then.
 #define _GNU_SOURCE
 #include "p2p_session.h"
 
-#include <pthread.h>
 #include <stdio.h>
 #include <stdlib.h>
 #include <string.h>
 #include <sys/mman.h>
+#include <ucontext.h>
+#include <unistd.h>
 
 enum { PEERS = 1000, KEY = P2P_SESSION_KEY_SIZE, SIGNATURE = P2P_SESSION_SIGNATURE_SIZE };
-enum { INFO = 9 + KEY + SIGNATURE, INFOS = 256, FRAME = 3 + INFOS * INFO, ROOM = 1 << 20, GUARD = 4096 };
+enum { INFO = 9 + KEY + SIGNATURE, INFOS = 256, FRAME = 3 + INFOS * INFO, ROOM = 1 << 20 };
 enum { STACK = P2P_SESSION_STACK / 2, PAINT = 0xa5 };
 
 static uint8_t keys[PEERS * KEY], frame[FRAME], out[ROOM];
@@ -135,35 +136,41 @@ static int load(void) {
     return 0;
 }
 
-static void *run(void *work) {
-    return (*(int (**)(void))work)() == 0 ? work : NULL;
-}
-
-// Where a thread may lie: a stack that is painted, above a page that nobody may touch.
+// A stack that is painted, above a page that nobody may touch.
 static uint8_t *make_stack(void) {
-    uint8_t *guard = mmap(NULL, GUARD + STACK, PROT_READ | PROT_WRITE, MAP_PRIVATE | MAP_ANONYMOUS, -1, 0);
-    if (guard == MAP_FAILED || mprotect(guard, GUARD, PROT_NONE) != 0)
+    size_t guard = (size_t)sysconf(_SC_PAGESIZE);
+    uint8_t *at = mmap(NULL, guard + STACK, PROT_READ | PROT_WRITE, MAP_PRIVATE | MAP_ANONYMOUS, -1, 0);
+    if (at == MAP_FAILED || mprotect(at, guard, PROT_NONE) != 0)
         exit(3);
-    return memset(guard + GUARD, PAINT, STACK);
+    return memset(at + guard, PAINT, STACK);
 }
 
-// Runs it in a thread with such a stack.
-static void measure(const char *name, int (*work)(void)) {
+static int (*work)(void);
+static int status;
+
+static void run(void) {
+    status = work();
+}
+
+// Runs it on such a stack. The least that a thread may have is more than that on some processors, so it is no thread.
+static void measure(const char *name, int (*measured)(void)) {
     uint8_t *stack = make_stack();
-    pthread_attr_t attributes;
-    pthread_t thread;
-    void *passed = NULL;
-    if (pthread_attr_init(&attributes) != 0 || pthread_attr_setstack(&attributes, stack, STACK) != 0)
+    ucontext_t here, there;
+    work = measured;
+    if (getcontext(&there) != 0)
         exit(3);
-    if (pthread_create(&thread, &attributes, run, &work) != 0 || pthread_join(thread, &passed) != 0)
+    there.uc_stack.ss_sp = stack;
+    there.uc_stack.ss_size = STACK;
+    there.uc_link = &here;
+    makecontext(&there, run, 0);
+    if (swapcontext(&here, &there) != 0)
         exit(3);
-    if (passed == NULL)
+    if (status != 0)
         exit(1);
     size_t clean = 0;
     while (clean < STACK && stack[clean] == PAINT)
         clean++;
     printf("%s: %zu of %d bytes of stack were written\n", name, STACK - clean, STACK);
-    munmap(stack - GUARD, GUARD + STACK);
 }
 
 int main(void) {
