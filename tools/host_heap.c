@@ -1,4 +1,4 @@
-// The three functions that the library asks for memory, in place of the toolchain's: a host may link its own. Each request is
+// The three functions that the library asks for memory, in place of the archive's: a host may link its own. Each request is
 // counted, and at the end of the program none is held.
 #include <stdio.h>
 #include <stdlib.h>
@@ -11,9 +11,11 @@ struct had {
 
 static size_t requests, held;
 
+// The pointer is into a block of the program even where there is no room.
 static struct had counted(void *at) {
+    static char nowhere;
     requests++;
-    return (struct had){at != NULL, at};
+    return (struct had){at != NULL, at != NULL ? at : &nowhere};
 }
 
 struct had rattle_alloc(size_t size, size_t align) {

@@ -19,7 +19,7 @@ for name in p2p_discovery p2p_tracker p2p_directory p2p_session p2p_session_c; d
     cp -r "crates/$name/src" "$copy/crates/$name/"
 done
 cp crates.txt "$copy/"
-cp tools/sources.sh "$copy/tools/"
+cp tools/sources.sh tools/heap.c "$copy/tools/"
 
 # Makes an archive in a folder, with a member that tells its name.
 marked() {
@@ -81,7 +81,7 @@ printf 'libdir=${pcfiledir}\nName: p2p_session\nDescription: of a test\nVersion:
 cat > "$copy/tools/archive.sh" << END
 #!/bin/sh
 echo >> $copy/proofs
-out=$copy/crates/p2p_session_c/out
+out=$copy/crates/p2p_session_c/out/\$1
 mkdir -p \$out
 cp $copy/prover/libp2p_session.a \$out/
 END
@@ -113,6 +113,10 @@ sed -i 's/^p2p_session:/& bytes/' "$copy/crates.txt"
 links package
 warns || fail 'it does not warn of a line of crates.txt that has changed'
 agree
+echo '// changed' >> "$copy/tools/heap.c"
+links package
+warns || fail 'it does not warn of a heap that has changed'
+agree
 
 refuses 'has no libp2p_session.a' "P2P_SESSION_LIB=$copy/nowhere"
 refuses 'pkg-config finds no p2p_session' "$asked" PKG_CONFIG_PATH=/nowhere
@@ -120,14 +124,21 @@ printf '#!/bin/sh\nexit 1\n' > "$copy/tools/archive.sh"
 touch "$copy/crates.txt"
 refuses 'tools/archive.sh failed' "$prove"
 # Of the targets whose standard library isn't installed the build script runs first.
-other="CARGO_BUILD_TARGET=aarch64-unknown-linux-gnu"
-refuses "no archive for aarch64-unknown-linux-gnu in this package, only for $target" "$other"
-musl=x86_64-unknown-linux-musl
-build "CARGO_BUILD_TARGET=$musl" || grep -q "can't find crate for" "$copy/told" || fail "$musl is refused"
-cat "$CARGO_TARGET_DIR/$musl"/debug/build/p2p-directory-sys-*/output "$CARGO_TARGET_DIR"/debug/build/p2p-directory-sys-*/output \
-    2> /dev/null > "$copy/told" || true
-grep -q "rustc-link-search=native=.*prebuilt/$target" "$copy/told" || fail "$musl links nothing"
-echo "$musl links the archive of $target"
+other="CARGO_BUILD_TARGET=riscv64gc-unknown-linux-gnu"
+targets=$(cut -d ' ' -f 1 tools/targets | LC_ALL=C sort | paste -s -d , | sed 's/,/, /g')
+refuses "no archive for riscv64gc-unknown-linux-gnu in this package, only for $targets" "$other"
+links_for() {
+    rm -rf "${CARGO_TARGET_DIR:?}/$1" "$CARGO_TARGET_DIR"/debug/build/p2p-directory-sys-*
+    build "CARGO_BUILD_TARGET=$1" || grep -q "can't find crate for" "$copy/told" || fail "$1 is refused"
+    cat "$CARGO_TARGET_DIR/$1"/debug/build/p2p-directory-sys-*/output \
+        "$CARGO_TARGET_DIR"/debug/build/p2p-directory-sys-*/output 2> /dev/null > "$copy/told" || true
+    grep -q "rustc-link-search=native=.*prebuilt/$2\$" "$copy/told" || fail "$1 links nothing"
+    echo "$1 links the archive of $2"
+}
+for processor in $(sed 's/-.*//' tools/targets); do
+    links_for "$processor-unknown-linux-gnu" "$processor-unknown-linux-gnu"
+    links_for "$processor-unknown-linux-musl" "$processor-unknown-linux-gnu"
+done
 ! build "$other" "P2P_SESSION_LIB=$copy/folder" || fail 'another target is built'
 ! grep -q 'no archive for' "$copy/told" || fail 'another target is refused where an archive is named'
 ! build "$other" DOCS_RS=1 || fail 'another target is built'

@@ -1,5 +1,5 @@
 #!/bin/sh
-# Proves the libraries of the archive in a new folder, without their wrong bodies, and builds the archive there. They
+# Proves the libraries of the archives in a new folder, without their wrong bodies, and builds the archives there. They
 # stand one on the other; lines, for which tests and programs wait, is proved there, too. What passed is kept for any
 # other `rt ci` on this machine, by the checksums of what was read: one of the checkout that runs at the same time waits
 # for each proof and takes it, and spends its own processors on what stands beside.

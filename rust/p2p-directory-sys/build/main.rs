@@ -21,7 +21,7 @@ use std::process::{Command, Stdio};
 /// The name of the library.
 const LIBRARY: &str = "p2p_session";
 
-/// Its file, which has the toolchain's heap, too.
+/// Its file, which has the heap in C, too.
 const ARCHIVE: &str = "libp2p_session.a";
 
 /// The variables that decide which library is linked.
@@ -89,7 +89,10 @@ fn proved() -> Result<(), String> {
         "P2P_SESSION_PROVE=1 proves the sources of a clone of the repository, and there are none beside this package",
     )?;
     track_sources(&repository);
+    let target = env::var("TARGET").expect("cargo sets it");
+    let target = built_for(&target);
     let ended = Command::new(repository.join("tools/archive.sh"))
+        .arg(target)
         .stdout(Stdio::from(io::stderr()))
         .status();
     if !ended.is_ok_and(|status| status.success()) {
@@ -100,7 +103,8 @@ fn proved() -> Result<(), String> {
         );
     }
     let out = PathBuf::from(env::var_os("OUT_DIR").expect("cargo sets it"));
-    let built = repository.join("crates/p2p_session_c/out").join(ARCHIVE);
+    let built = repository.join("crates/p2p_session_c/out").join(target);
+    let built = built.join(ARCHIVE);
     fs::copy(&built, out.join(ARCHIVE)).map_err(|error| format!("{}: {error}", built.display()))?;
     // Not tracked: cargo treats files that a build script writes as changed, and would prove again
     // each time.
@@ -159,6 +163,7 @@ fn packaged() -> Result<(), String> {
 fn built_for(target: &str) -> &str {
     match target {
         "x86_64-unknown-linux-musl" => "x86_64-unknown-linux-gnu",
+        "aarch64-unknown-linux-musl" => "aarch64-unknown-linux-gnu",
         other => other,
     }
 }
@@ -170,14 +175,11 @@ fn repository() -> Option<PathBuf> {
 }
 
 fn track_sources(repository: &Path) {
-    println!(
-        "cargo::rerun-if-changed={}",
-        repository.join("crates.txt").display()
-    );
-    for folder in proved::folders() {
+    let files = ["crates.txt", proved::HEAP].map(str::to_owned);
+    for path in files.into_iter().chain(proved::folders()) {
         println!(
             "cargo::rerun-if-changed={}",
-            repository.join(folder).display()
+            repository.join(path).display()
         );
     }
 }

@@ -15,6 +15,9 @@ const CRATES: [&str; 5] = [
     "p2p_session_c",
 ];
 
+/// The heap in C, which is a part of the archive.
+pub const HEAP: &str = "tools/heap.c";
+
 /// The folders of the repository with the sources of the archive. Proofs and specs change no code.
 pub fn folders() -> [String; 5] {
     CRATES.map(|name| format!("crates/{name}/src"))
@@ -35,14 +38,15 @@ pub fn told_hash<'a>(text: &'a str, name: &str) -> Option<&'a str> {
         .map(|(hash, _)| hash)
 }
 
-/// What `tools/sources.sh` prints: the hash of each source, the lines of the crates in
-/// `crates.txt`, and the toolchain.
+/// What `tools/sources.sh` prints: the hash of each source and of the heap, the lines of the crates
+/// in `crates.txt`, and the toolchain.
 pub fn sources(repository: &Path, toolchain: &str) -> io::Result<String> {
     let mut paths = Vec::new();
     for folder in folders() {
         add_files(repository, &folder, &mut paths)?;
     }
     paths.sort();
+    paths.push(HEAP.to_owned());
     let mut text = String::new();
     for path in paths {
         let hash = sha256::hex(&fs::read(repository.join(&path))?);

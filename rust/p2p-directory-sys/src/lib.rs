@@ -18,7 +18,7 @@
 //! | `P2P_SESSION_LIB` to an absolute path | `libp2p_session.a` there |
 //! | `P2P_SESSION_PROVE=1`, in a clone with the toolchain | the present sources, proved first in an hour or so |
 //! | `P2P_SESSION_PKG_CONFIG=1` | the `p2p_session` of this version that pkg-config finds |
-//! | none of them | the archive within this package, for `x86_64-unknown-linux-gnu`; `PROVED` says what was proved |
+//! | none of them | the archive within this package, for `x86_64-unknown-linux-gnu` or `aarch64-unknown-linux-gnu`; `PROVED` says what was proved |
 //!
 //! With `DOCS_RS` set nothing is linked, which is enough to build the documentation.
 //!
