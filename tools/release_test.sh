@@ -1,14 +1,17 @@
 #!/bin/sh
 # Tests the release of the commit that is checked out, in a clone whose PROVED is made to fit the sources where they have
 # changed since: what it refuses, that it is the same bytes twice, and that with what it holds alone, and no rt on the path, a
-# C compiler and cargo build and pass all.
+# C compiler and cargo build and pass all. For other processors than this machine's it builds a host, which qemu runs.
 set -eu
 cd "$(dirname "$0")/.."
-tools/installed.sh cargo cc:gcc g++ ar:binutils nm:binutils cmake pkg-config:pkgconf python3
+tools/installed.sh cargo cc:gcc g++ ar:binutils nm:binutils cmake pkg-config:pkgconf python3 qemu-aarch64:qemu-user \
+    aarch64-linux-gnu-gcc:gcc-aarch64-linux-gnu
 folder=$(mktemp -d)
 trap 'rm -rf "$folder"' EXIT
 tools/clone.sh "$folder/clone"
-prebuilt=rust/p2p-directory-sys/prebuilt/x86_64-unknown-linux-gnu
+targets=$(cut -d ' ' -f 1 tools/targets)
+carried=rust/p2p-directory-sys/prebuilt
+prebuilt=$carried/x86_64-unknown-linux-gnu
 # What a machine has that never heard of Rattle.
 path=$(dirname "$(command -v cargo)"):/usr/bin:/bin
 alone() {
@@ -35,37 +38,47 @@ refusals() {
     refuses 'is of other sources'
     git -C "$folder/clone" reset --quiet --hard HEAD^
     fit
-    echo >> "$folder/clone/$prebuilt/libp2p_session.a"
-    commit 'spoil the archive'
-    refuses 'not the one that PROVED tells of'
-    git -C "$folder/clone" reset --quiet --hard HEAD^
+    for target in $targets; do
+        echo >> "$folder/clone/$carried/$target/libp2p_session.a"
+        commit 'spoil the archive'
+        refuses "$target/libp2p_session.a is not the one that PROVED tells of"
+        git -C "$folder/clone" reset --quiet --hard HEAD^
+    done
 }
 
-# Renews the carried archive from a copy, and compares it with another.
+# Renews the carried archives from a copy, and compares them with others.
 renewed() {
     (
-        mkdir "$folder/built"
         cd "$folder/clone"
-        head -n -1 "$prebuilt/PROVED" > "$folder/built/PROVED"
-        cp "$prebuilt/libp2p_session.a" "$folder/built/"
-        rm -r "$prebuilt/libp2p_session.a" "$prebuilt/PROVED"
+        for target in $targets; do
+            mkdir -p "$folder/built/$target"
+            head -n -1 "$carried/$target/PROVED" > "$folder/built/$target/PROVED"
+            cp "$carried/$target/libp2p_session.a" "$folder/built/$target/"
+            rm "$carried/$target/libp2p_session.a" "$carried/$target/PROVED"
+        done
         tools/release.sh --prebuilt "$folder/built"
         git diff --exit-code --stat
         tools/prebuilt.sh --check "$folder/built"
-        printf x >> "$folder/built/libp2p_session.a"
-        tools/prebuilt.sh --check "$folder/built" > "$folder/told" 2>&1 && exit 1
-        grep -q 'run tools/release.sh --prebuilt and commit' "$folder/told"
+        for target in $targets; do
+            cp "$folder/built/$target/libp2p_session.a" "$folder/kept.a"
+            printf x >> "$folder/built/$target/libp2p_session.a"
+            tools/prebuilt.sh --check "$folder/built" > "$folder/told" 2>&1 && exit 1
+            grep -q "$target is not what the sources give: run tools/release.sh --prebuilt and commit" "$folder/told"
+            mv "$folder/kept.a" "$folder/built/$target/libp2p_session.a"
+        done
         git diff --exit-code --stat
     )
-    echo 'the carried archive is renewed, and another one is seen'
+    echo 'the carried archives are renewed, and another one is seen'
 }
 
 # Makes PROVED fit the sources.
 fit() {
     (
         cd "$folder/clone"
-        line=$(tools/sources.sh "$(head -n 1 $prebuilt/PROVED)" | sha256sum | sed 's/-$/sources/')
-        sed -i "s/^[0-9a-f]*  sources\$/$line/" $prebuilt/PROVED
+        for target in $targets; do
+            line=$(tools/sources.sh "$(head -n 1 "$carried/$target/PROVED")" | sha256sum | sed 's/-$/sources/')
+            sed -i "s/^[0-9a-f]*  sources\$/$line/" "$carried/$target/PROVED"
+        done
     )
     git -C "$folder/clone" diff --quiet || commit 'fit'
 }
@@ -77,7 +90,7 @@ twice() {
     diff -r "$folder/first" "$folder/clone/dist"
     (cd "$folder/first" && sha256sum --check --quiet ./*.sha256)
     tar -x -z -C "$folder" -f "$folder"/first/*.tar.gz
-    mv "$folder"/p2p-directory-*-x86_64-linux-gnu "$folder/release"
+    mv "$folder"/p2p-directory-*-linux "$folder/release"
     echo 'the same bytes twice'
     # No document has a link to what the release lacks: there is nothing to take out.
     cp -r "$folder/release" "$folder/linked"
@@ -99,9 +112,9 @@ c_hosts() {
         strict='-Wall -Wextra -pedantic -Werror'
         # shellcheck disable=SC2086 # a list of words
         {
-            cc -std=c11 $strict examples/session.c -Iinclude -Llib -lp2p_session -o "$folder/c11"
-            g++ -std=c++17 $strict -x c++ examples/session.c -x none -Iinclude -Llib -lp2p_session -o "$folder/c++17"
-            cc -std=c11 $strict examples/session.c "$1/tools/host_heap.c" -Iinclude -Llib -lp2p_session -o "$folder/own_heap"
+            cc -std=c11 $strict examples/session.c -Iinclude "-Llib/$(uname -m)" -lp2p_session -o "$folder/c11"
+            g++ -std=c++17 $strict -x c++ examples/session.c -x none -Iinclude "-Llib/$(uname -m)" -lp2p_session -o "$folder/c++17"
+            cc -std=c11 $strict examples/session.c "$1/tools/host_heap.c" -Iinclude "-Llib/$(uname -m)" -lp2p_session -o "$folder/own_heap"
         }
     )
     (cd "$folder/clone" && cc examples/session.c -Iinclude $prebuilt/libp2p_session.a -o "$folder/expected")
@@ -110,6 +123,30 @@ c_hosts() {
     runs c++17
     runs own_heap
     grep "requests met by the host's own heap" "$folder/own_heap.err"
+}
+
+# The example for each other processor, with what is below a prefix.
+other_processors() {
+    for target in $targets; do
+        processor=${target%%-*}
+        [ "$processor" != "$(uname -m)" ] || continue
+        "$folder/release/install.sh" "$folder/$processor" "$processor" > /dev/null
+        project
+        host -DCMAKE_PREFIX_PATH="$folder/$processor" > "$folder/told" 2>&1 &&
+            { echo "CMake takes the library for $processor on this machine" >&2; exit 1; }
+        rm -r "$folder/project/build"
+        # shellcheck disable=SC2046 # a list of words
+        PKG_CONFIG_PATH="$folder/$processor/lib/pkgconfig" "$processor-linux-gnu-gcc" "$folder/project/session.c" -static \
+            $(PKG_CONFIG_PATH="$folder/$processor/lib/pkgconfig" pkg-config --cflags --libs p2p_session) -o "$folder/project/host"
+        "qemu-$processor" "$folder/project/host" | diff "$folder/expected.out" -
+        host -DCMAKE_SYSTEM_NAME=Linux -DCMAKE_SYSTEM_PROCESSOR="$processor" -DCMAKE_C_FLAGS=-static \
+            -DCMAKE_C_COMPILER="$processor-linux-gnu-gcc" -DCMAKE_PREFIX_PATH="$folder/$processor" > "$folder/told"
+        "qemu-$processor" "$folder/project/build/by_cmake" | diff "$folder/expected.out" -
+        rm -r "$folder/project"
+        echo "examples/session.c for $processor, by pkg-config and by CMake, which refuses it for this machine"
+    done
+    ! "$folder/release/install.sh" "$folder/riscv64" riscv64 2> "$folder/told" || exit 1
+    grep 'there is no library for riscv64' "$folder/told"
 }
 
 # By a shared library, which is made of what the release holds.
@@ -121,14 +158,8 @@ python_host() {
     )
 }
 
-# By pkg-config and by CMake, from a prefix that was moved.
-installed() {
-    "$folder/release/install.sh" "$folder/before" > /dev/null
-    mv "$folder/before" "$folder/prefix"
-    export PKG_CONFIG_PATH="$folder/prefix/lib/pkgconfig"
-    # shellcheck disable=SC2046 # a list of words
-    cc examples/session.c $(pkg-config --cflags --libs p2p_session) -o "$folder/by_pkg_config"
-    runs by_pkg_config
+# A host that CMake builds, in the folder project.
+project() {
     mkdir "$folder/project"
     cp examples/session.c "$folder/project/"
     cat > "$folder/project/CMakeLists.txt" << 'END'
@@ -138,9 +169,23 @@ find_package(p2p_session 0.1.0 EXACT REQUIRED CONFIG)
 add_executable(by_cmake session.c)
 target_link_libraries(by_cmake PRIVATE p2p_session::p2p_session)
 END
-    cmake -S "$folder/project" -B "$folder/project/build" -DCMAKE_PREFIX_PATH="$folder/prefix" > "$folder/told"
-    cmake --build "$folder/project/build" >> "$folder/told"
+}
+host() {
+    cmake -S "$folder/project" -B "$folder/project/build" "$@" && cmake --build "$folder/project/build"
+}
+
+# By pkg-config and by CMake, from a prefix that was moved.
+installed() {
+    "$folder/release/install.sh" "$folder/before" > /dev/null
+    mv "$folder/before" "$folder/prefix"
+    export PKG_CONFIG_PATH="$folder/prefix/lib/pkgconfig"
+    # shellcheck disable=SC2046 # a list of words
+    cc examples/session.c $(pkg-config --cflags --libs p2p_session) -o "$folder/by_pkg_config"
+    runs by_pkg_config
+    project
+    host -DCMAKE_PREFIX_PATH="$folder/prefix" > "$folder/told"
     cp "$folder/project/build/by_cmake" "$folder/"
+    rm -r "$folder/project"
     runs by_cmake
     (
         cd "$folder/release/rust"
@@ -188,12 +233,14 @@ sees() {
 
 verified() {
     (cd "$folder/clone" && tools/verify_release.sh --without-proof "$folder"/first/*.tar.gz) | tail -n 1
-    sees lib/libp2p_session.a
+    for target in $targets; do
+        sees "lib/${target%%-*}/libp2p_session.a"
+        sees "$carried/$target/libp2p_session.a"
+    done
     sees include/p2p_session.h
     sees include/p2p_session_common.h
     sees rust/p2p-directory-sys/src/exports.rs
     sees rust/p2p-directory-sys/build/main.rs
-    sees rust/p2p-directory-sys/prebuilt/x86_64-unknown-linux-gnu/libp2p_session.a
     mkdir "$folder/unknown"
     tar -x -z -C "$folder/unknown" -f "$folder"/first/*.tar.gz
     sed -i 's/^commit .*/commit 0123456789012345678901234567890123456789/' "$folder"/unknown/*/PROVED
@@ -217,6 +264,7 @@ verified
 c_hosts "$PWD"
 python_host
 installed
+other_processors
 runs_two_nodes release
 passes_tests release
 runs_two_nodes clone

@@ -1,7 +1,7 @@
 #!/bin/sh
 # For who has the toolchain and a release, and trusts nobody who made it: makes the release anew from the commit that its PROVED
-# names, of which this clone has to know, with the archive proved anew, and compares all that is in it byte for byte, with
-# modes and times. Ends with the verdicts. Proving takes an hour or so; with --without-proof the committed archive is taken.
+# names, of which this clone has to know, with the archives proved anew, and compares all that is in it byte for byte, with
+# modes and times. Ends with the verdicts. Proving takes an hour or so; with --without-proof the committed archives are taken.
 #
 # usage: tools/verify_release.sh [--without-proof] FILE
 set -eu
@@ -47,9 +47,9 @@ cd "$folder"
 diff -r --no-dereference --brief given made || refuse "$file is not what commit $commit gives"
 diff given.list made.list || refuse "$file has other modes or times than what commit $commit gives"
 if [ -n "$proves" ]; then
-    cat clone/crates/p2p_session_c/out/PROVED
+    cat clone/crates/p2p_session_c/out/*/PROVED
     echo "$file is what commit $commit gives, proved anew"
 else
     cat "$proved"
-    echo "$file is what commit $commit gives; the archive was not proved anew"
+    echo "$file is what commit $commit gives; the archives were not proved anew"
 fi
