@@ -3,7 +3,7 @@
 # tools/exports/session.table it
 # - runs it under valgrind, and looks that the program has the code of its pair alone;
 # - runs it, as C99, where an export that is handed a null pointer ends the program;
-# - runs it, and calls with 1,000 peers, in threads with half of the stack that the header tells of.
+# - runs it, and calls with 1,000 peers, with half of the stack that the header tells of.
 #
 # Then it runs a program that uses all pairs, and examples/session.py with a shared library, by which it also looks whether
 # each call answers in the forms of tools/exports/forms.txt. It sees that the compiler refuses a session of one pair to the
@@ -12,6 +12,7 @@
 # usage: tools/host_c.sh [FOLDER], the folder with libp2p_session.a, by default the one in which the Rust crates carry it
 set -eu
 cd "$(dirname "$0")/.."
+. tools/pairs_in_c.sh
 archives=${1:-rust/p2p-directory-sys/prebuilt/x86_64-unknown-linux-gnu}
 tools/installed.sh cc:gcc g++ nm:binutils python3 valgrind
 tools/host_compilers.sh "$archives"
@@ -31,17 +32,7 @@ under_valgrind() {
     valgrind --quiet --error-exitcode=9 --leak-check=full --errors-for-leak-kinds=definite,indirect "$1"
 }
 
-# The pairs of sizes: what their calls begin with, the sizes, and the first bytes that a key may have.
-sed -n -e 's/:.*//' -e 's/ first / /g' -e 's/^pair \([0-9]*\) \([0-9]*\)/p2p_session_\1_\2 \1 \2/p' $table |
-    sed '1s/^[^ ]*/p2p_session/' > "$folder/pairs"
-
-# A source that is written for the first pair, for another: its header, calls, type and sizes have these in their names.
-of_pair() {
-    [ "$2" != p2p_session ] || { cat "$1"; return; }
-    sed -e "s/p2p_session_\([a-z_]*\)(/$2_\1(/g" -e "s/$2_\(is_\|refusal_\)/p2p_session_\1/g" \
-        -e "s/struct p2p_session\b/struct $2/g" -e "s/\"p2p_session\.h\"/\"$2.h\"/" \
-        -e "s/P2P_SESSION_\(KEY_SIZE\|SIGNATURE_SIZE\|RECEIVE_ROOM\)/$(echo "$2" | tr '[:lower:]' '[:upper:]')_\1/g" "$1"
-}
+pairs_in_c > "$folder/pairs"
 
 # Whether a program has calls of this pair, and neither a call nor any other code of another one.
 has_only() {
@@ -68,7 +59,7 @@ while read -r pair key signature firsts; do
         cc -std=c99 $strict $first -fsanitize=nonnull-attribute -fsanitize-undefined-trap-on-error -I "$folder/nonnull" \
             "$folder/session.c" $linked -o "$folder/nonnull/session"
         cc -std=c11 $strict $first -I include -D main=session_main -c "$folder/session.c" -o "$folder/session.o"
-        cc -std=c11 $strict $first -I include "$folder/stack.c" "$folder/session.o" $linked -pthread -o "$folder/stack"
+        cc -std=c11 $strict $first -I include "$folder/stack.c" "$folder/session.o" $linked -o "$folder/stack"
     }
     echo "examples/session.c as C99 and C11 with keys of $key bytes and signatures of $signature:"
     under_valgrind "$folder/session" > "$folder/told"
@@ -119,14 +110,10 @@ while read -r given _; do
 done < "$folder/pairs"
 echo 'a session of one pair of sizes is refused by the calls of each other one'
 
-# Whose code the archive has: as many functions of each library as docs/LICENCES.md lists, and no other library.
 if [ -f "$archives/libp2p_session.a" ]; then
-    nm -C "$archives/libp2p_session.a" | sed -n -E 's/^[0-9a-f]+ [tT] <?(p2p_)?([a-z0-9_]*).*/\1\2/p' |
-        sed -E -e 's/^p2p_.*/ours/' -e 's/^rattle_(alloc|realloc|dealloc)$/heap/' | sort | uniq -c | awk '{ print $1, $2 }' > "$folder/lines"
-    sed -n -E -e 's/^\| .*p2p_session.* \| ([0-9]+) \|.*/\1 ours/p' -e 's/^\| .*rattle_alloc.* \| ([0-9]+) \|.*/\1 heap/p' \
-        -e 's/^\| `(bytes|core|std[a-z_]*)` \| ([0-9]+) \|.*/\2 \1/p' docs/LICENCES.md | LC_ALL=C sort -k 2 > "$folder/told"
-    LC_ALL=C sort -k 2 "$folder/lines" | diff - "$folder/told" >&2 || fail 'docs/LICENCES.md lists other code than the archive has'
-    echo 'docs/LICENCES.md lists all code of the archive'
+    tools/licences.sh "$archives/libp2p_session.a" x86_64
+    tools/stack.py "$archives/libp2p_session.a" 16000000 26624 > "$folder/told" || { cat "$folder/told" >&2; exit 1; }
+    sed 's/^/bytes of stack with 16,000,000 peers, at most:/;q' "$folder/told"
 fi
 
 # A host that was compiled for another interface doesn't link: the name with the hash is all that it lacks.
