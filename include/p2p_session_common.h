@@ -26,11 +26,10 @@
 //   at a multiple of each power of two up to 16 that divides their size.
 // - Signals and forks: no call is made in a signal handler, nor in the forked child of a process
 //   that has threads.
-// - Stack: P2P_SESSION_STACK bytes of the thread's stack are free at each call. That is measured,
-//   not proved: threads with half as much, the least that glibc grants, run examples/session.c and
-//   calls with 1,000 peers (tools/host_stack.c), with each pair of sizes.
-// - Processor: it has all of x86-64-v2. The library doesn't ask it; on an older one the program
-//   dies of an illegal instruction.
+// - Stack: P2P_SESSION_STACK bytes of the thread's stack are free at each call. That is computed
+//   from the machine code, not proved (tools/stack.py): while no list and no map has more than
+//   16,000,000 entries, a call takes at most 26 KiB, and 6 KiB are left for what it calls of the
+//   C library.
 //
 // A call returns a count, a bool as 0 or 1, a length, or one of the numbers for which
 // P2P_SESSION_IS_REFUSAL is true. If a query returns a length above that of its buffer, it has

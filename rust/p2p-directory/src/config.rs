@@ -110,16 +110,3 @@ impl Limits {
         }
     }
 }
-
-/// Whether the processor has all instruction sets that the library is compiled for. The library
-/// itself doesn't check.
-pub(crate) fn is_supported() -> bool {
-    #[cfg(target_arch = "x86_64")]
-    let is_supported = is_x86_feature_detected!("sse4.2")
-        && is_x86_feature_detected!("ssse3")
-        && is_x86_feature_detected!("popcnt")
-        && is_x86_feature_detected!("cmpxchg16b");
-    #[cfg(not(target_arch = "x86_64"))]
-    let is_supported = true;
-    is_supported
-}

@@ -30,8 +30,6 @@ pub enum SetupError {
     OutOfMemory,
     /// `max_sets` is `usize::MAX`, or `max_bit_vec` is above `u32::MAX`.
     Setting,
-    /// The processor lacks an instruction of x86-64-v2, for which the library is compiled.
-    Processor,
 }
 
 /// The reason why a node didn't register a peer set. Nothing has changed.
@@ -302,7 +300,6 @@ impl fmt::Display for SetupError {
         f.write_str(match self {
             SetupError::OutOfMemory => "nothing could be set up",
             SetupError::Setting => "a setting is out of range",
-            SetupError::Processor => "the processor lacks instructions of x86-64-v2",
         })
     }
 }
@@ -389,7 +386,7 @@ impl error::Error for SetupError {
     fn source(&self) -> Option<&(dyn error::Error + 'static)> {
         match self {
             SetupError::OutOfMemory => Some(&OutOfMemory),
-            SetupError::Setting | SetupError::Processor => None,
+            SetupError::Setting => None,
         }
     }
 }

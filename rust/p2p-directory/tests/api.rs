@@ -314,8 +314,6 @@ fn errors_name_their_causes() {
     let refused = texts(&SetupError::OutOfMemory);
     assert_eq!(refused, ["nothing could be set up", "memory was refused"]);
     assert_eq!(texts(&SetupError::Setting), ["a setting is out of range"]);
-    let lacks = "the processor lacks instructions of x86-64-v2";
-    assert_eq!(texts(&SetupError::Processor), [lacks]);
     let not_registered = texts(&TrackError::OutOfMemory);
     let said = ["the set could not be registered", "memory was refused"];
     assert_eq!(not_registered, said);

@@ -6,7 +6,7 @@ use super::sets::{OrderedSet, Tracked, TrackedPeers};
 use super::{Calls, Session};
 use crate::answer::{Kind, OWN, Room, answered, certain, is_certain, is_done, is_true, unknown};
 use crate::codec::{ReadError, Reader};
-use crate::config::{Config, Limits, is_supported};
+use crate::config::{Config, Limits};
 use crate::error::{CodecError, ConnectError, NotReservedError, OutOfMemory, SetupError};
 use crate::ingress::{Ingress, MAX_HOSTNAME};
 use crate::memory::{MOST_KEPT, give_back_large};
@@ -157,9 +157,8 @@ impl<P: Pair> Directory<P> {
     ///
     /// # Errors
     ///
-    /// [`SetupError::OutOfMemory`] if an allocation fails, [`SetupError::Setting`] if
-    /// `cfg.max_sets` is `usize::MAX`, and [`SetupError::Processor`] if the processor lacks an
-    /// instruction set that the library uses.
+    /// [`SetupError::OutOfMemory`] if an allocation fails, and [`SetupError::Setting`] if
+    /// `cfg.max_sets` is `usize::MAX`.
     ///
     /// # Examples
     ///
@@ -731,12 +730,9 @@ impl<P: Pair> fmt::Debug for Directory<P> {
     }
 }
 
-/// A session with no node, if the processor has what the library needs.
-pub(super) fn new_session<P: Pair>() -> Result<Session<P>, SetupError> {
-    match is_supported() {
-        true => Ok(Session::<P>::of(Calls::<P>::new().ok_or(OutOfMemory)?)),
-        false => Err(SetupError::Processor),
-    }
+/// A session with no node.
+pub(super) fn new_session<P: Pair>() -> Result<Session<P>, OutOfMemory> {
+    Ok(Session::<P>::of(Calls::<P>::new().ok_or(OutOfMemory)?))
 }
 
 // The encoding of bootstrappers: keys and ingresses, one after the other.

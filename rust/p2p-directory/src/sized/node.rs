@@ -204,9 +204,8 @@ impl<P: Pair> Node<P> {
     ///
     /// # Errors
     ///
-    /// [`SetupError::OutOfMemory`] if an allocation fails, [`SetupError::Setting`] if
-    /// `cfg.max_sets` is `usize::MAX` or `payload.max_bit_vec` is above `u32::MAX`, and
-    /// [`SetupError::Processor`] if the processor lacks an instruction set that the library uses.
+    /// [`SetupError::OutOfMemory`] if an allocation fails, and [`SetupError::Setting`] if
+    /// `cfg.max_sets` is `usize::MAX` or `payload.max_bit_vec` is above `u32::MAX`.
     ///
     /// # Examples
     ///

@@ -47,8 +47,7 @@ impl<P: Pair> Info<P> {
     ///
     /// # Errors
     ///
-    /// [`SetupError::OutOfMemory`] if an allocation fails, and [`SetupError::Processor`] if the
-    /// processor lacks an instruction set that the library uses.
+    /// [`SetupError::OutOfMemory`] if an allocation fails.
     ///
     /// # Examples
     ///

@@ -144,7 +144,7 @@ impl Member {
     ///
     /// # Errors
     ///
-    /// Says why there is no node: memory, or the processor.
+    /// Says that there is no memory for a node.
     pub fn start(
         &self,
         myself: Info,

@@ -55,7 +55,7 @@ pub struct Run {
 ///
 /// # Errors
 ///
-/// Says that there is no memory, or that the processor lacks an instruction set.
+/// Says that there is no memory.
 pub fn simulate(parameters: &Parameters, is_recorded: bool) -> Result<Run, String> {
     let mut network = Network::new(parameters.clone());
     network.record = is_recorded.then(|| Record::new(parameters.nodes));

@@ -124,7 +124,7 @@ impl Network {
     ///
     /// # Errors
     ///
-    /// Says why a node could not be created or its call failed: memory, or the processor.
+    /// Says why a node could not be created or its call failed: there is no memory.
     pub fn run_until(&mut self, end: Duration) -> Result<(), String> {
         while let Some((at, node, event)) = self.events.next_until(end) {
             self.now = at;
