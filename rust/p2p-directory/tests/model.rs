@@ -10,7 +10,7 @@ use calls::{MOST_CALLS, compare, shrunk};
 use p2p_directory::sized::Pair;
 use std::collections::{BTreeMap, BTreeSet};
 
-tests_of_two_pairs! { a_node_answers_as_the_model_does }
+tests_of_each_pair! { a_node_answers_as_the_model_does }
 
 const RUNS: usize = 500;
 
