@@ -53,6 +53,10 @@ sed 's/^\([^ ]*\).*/#include "\1.h"/' "$folder/pairs" > "$folder/headers.h"
 sed -n -E -e '/^[0-9]+ /{s/^([0-9]+) \w+\(&(mut )?self(, )?(.*)\)$/\1 \4/; s/\w+: (u64|u32|bool)/n/g; s/\w+: &mut \[u8\]/o/g' \
     -e 's/\w+: &\[u8\]/b/g; s/, //g; s/^([0-9]+) (.*)$/CALL(\1, "\2")/p}' tools/exports/session.table > "$folder/calls.h"
 
+# Whether there is an export for calls with one slice at most.
+has=
+! nm "$archives/$here/libp2p_session.a" | grep -q ' T p2p_session_call_peer$' || has=-DCALL_PEER
+
 # An archive whose calls are recorded: its exports have other names, by which the recorder calls them.
 make_recorder() {
     mkdir "$folder/recorder"
@@ -63,8 +67,6 @@ make_recorder() {
     done < "$folder/pairs" > "$folder/recorder/names"
     ! nm "$archives/$here/libp2p_session.a" 2> /dev/null | sed -n 's/.* T \(p2p_session_.*\)/\1/p' |
         grep -v -E '_(new|free|size|call|call_peer|interface_[0-9a-f]*|is_global|is_valid)$' || fail 'these are not recorded'
-    has=
-    ! nm "$archives/$here/libp2p_session.a" | grep -q ' T p2p_session_call_peer$' || has=-DCALL_PEER
     # shellcheck disable=SC2086 # lists of words
     cc -std=c11 $strict $has -I include -I "$folder" -c tools/replay/recorder.c -o "$folder/recorder/recorder.o"
     (
@@ -123,7 +125,8 @@ examples() {
 
 logs() {
     for target in "$here" "$1"; do
-        compile "$target" c player tools/replay/player.c
+        # shellcheck disable=SC2086 # no word where there is no such export
+        compile "$target" c player $has tools/replay/player.c
         run "$target" player "$folder/all" "$folder/$target/answers" > "$folder/$target/told" || fail "$target answers otherwise"
         run "$target" player --refuse "$folder/few" > "$folder/$target/refused" || fail "$target answers otherwise"
     done
@@ -154,7 +157,8 @@ tools/stack_test.sh
 oldest() {
     tools/installed.sh qemu-x86_64:qemu-user
     oldest='qemu-x86_64 -cpu qemu64,-sse3,-cx16,-lahf-lm'
-    compile "$here" c player tools/replay/player.c -static
+    # shellcheck disable=SC2086 # no word where there is no such export
+    compile "$here" c player $has tools/replay/player.c -static
     $oldest "$folder/$here/player" "$folder/all" > "$folder/told" || fail 'the oldest x86-64 answers otherwise'
     sed 's/^/the oldest x86-64: /;q' "$folder/told"
     for instruction in 'haddps %xmm0, %xmm0' 'pabsb %xmm0, %xmm0' 'popcnt %eax, %eax'; do

@@ -43,6 +43,9 @@ typedef uint64_t call_of(void *at, uint64_t number, const uint64_t *numbers, siz
     size_t first_length, const uint8_t *second, size_t second_length, const uint8_t *third, size_t third_length,
     uint8_t *out, size_t out_length);
 
+typedef uint64_t peer_call_of(void *at, uint64_t number, const uint64_t *numbers, size_t numbers_length, const uint8_t *peer,
+    size_t peer_length);
+
 struct bytes {
     const uint8_t *at;
     size_t length;

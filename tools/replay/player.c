@@ -25,6 +25,8 @@ struct pair {
     void (*new)(void *at);
     void (*free)(void *at);
     call_of *call;
+    // The export for calls with one slice at most and no buffer, if there is one.
+    peer_call_of *call_peer;
 };
 
 // The exports of a pair take the type of its sessions.
@@ -36,12 +38,25 @@ struct pair {
         size_t third_length, uint8_t *out, size_t out_length) { \
         return prefix##_call(at, number, numbers, numbers_length, first, first_length, second, second_length, third, \
             third_length, out, out_length); \
+    } \
+    PEER_CALL(prefix)
+#ifdef CALL_PEER
+#define PEER_CALL(prefix) \
+    static uint64_t prefix##_call_peer_at(void *at, uint64_t number, const uint64_t *numbers, size_t numbers_length, \
+        const uint8_t *peer, size_t peer_length) { \
+        return prefix##_call_peer(at, number, numbers, numbers_length, peer, peer_length); \
     }
+#define PEER_CALL_AT(prefix) prefix##_call_peer_at
+#else
+#define PEER_CALL(prefix)
+#define PEER_CALL_AT(prefix) NULL
+#endif
 #include "pairs.h"
 #undef PAIR
 
 static const struct pair pairs[] = {
-#define PAIR(prefix, key, signature) {key, signature, prefix##_size, prefix##_new_at, prefix##_free_at, prefix##_call_at},
+#define PAIR(prefix, key, signature) \
+    {key, signature, prefix##_size, prefix##_new_at, prefix##_free_at, prefix##_call_at, PEER_CALL_AT(prefix)},
 #include "pairs.h"
 #undef PAIR
 };
@@ -206,14 +221,23 @@ static uint8_t *copied(struct bytes slice, uint8_t **from) {
     return at;
 }
 
+// Makes a call by either export that takes it, by turns.
+static uint64_t request(const struct pair *pair, void *session, const struct record *record, uint8_t *const *slices,
+    uint8_t *out) {
+    const struct bytes *given = record->slices;
+    size_t numbers = count_of(record->number, 'n');
+    if (pair->call_peer != NULL && calls % 2 == 0 && count_of(record->number, 'o') == 0 && count_of(record->number, 'b') < 2)
+        return pair->call_peer(session, record->number, record->numbers, numbers, slices[0], given[0].length);
+    return pair->call(session, record->number, record->numbers, numbers, slices[0], given[0].length, slices[1],
+        given[1].length, slices[2], given[2].length, out, record->room);
+}
+
 static uint64_t make(const struct pair *pair, void *session, const struct record *record, uint8_t *out) {
     uint8_t *from[MOST_SLICES], *slices[MOST_SLICES];
     for (size_t i = 0; i < MOST_SLICES; i++)
         slices[i] = copied(record->slices[i], &from[i]);
     memset(out, PAINT, record->room < PAINTED ? record->room : PAINTED);
-    uint64_t answer = pair->call(session, record->number, record->numbers, count_of(record->number, 'n'), slices[0],
-        record->slices[0].length, slices[1], record->slices[1].length, slices[2], record->slices[2].length, out,
-        record->room);
+    uint64_t answer = request(pair, session, record, slices, out);
     for (size_t i = 0; i < MOST_SLICES; i++) {
         if (record->slices[i].length > 0 && memcmp(slices[i], record->slices[i].at, record->slices[i].length) != 0)
             fail("an argument is changed");
