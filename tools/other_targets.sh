@@ -152,7 +152,6 @@ logs() {
     echo "a changed answer is seen on $1"
 }
 
-tools/stack_test.sh
 # The logs on an x86-64 with no more than each of them has. On that one an instruction of later ones ends a program.
 oldest() {
     tools/installed.sh qemu-x86_64:qemu-user
@@ -168,6 +167,7 @@ oldest() {
     done
 }
 
+tools/stack_test.sh
 make_recorder
 mkdir "$folder/$here"
 recorded
