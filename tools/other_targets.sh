@@ -3,7 +3,7 @@
 # - the example prints for each pair of sizes, as C and as C++, what it prints on this machine, and on half of the stack;
 # - the logs of this machine, recorded from the tests of the Rust crates, are answered alike, byte for byte, by a player in C,
 #   which also says how much stack the calls took; the answers that it got are played on this machine, by p2p-replay, too;
-# - each request for memory in some of the logs is refused in turn, as often as on this machine.
+# - each request for memory in these logs is refused in turn, as often as on this machine.
 # An answer that was changed in a log is seen. The logs are also played on an x86-64 that has nothing of later ones.
 #
 # usage: tools/other_targets.sh [FOLDER], with TARGET/libp2p_session.a, by default the one in which the Rust crates carry them
@@ -88,13 +88,9 @@ recorded() {
         # shellcheck disable=SC2086 # a list of words
         cargo test --offline -p p2p-directory --features record,testing $tests -- --skip valgrind
         cargo test --offline -p p2p-directory --features record,testing --test recording -- random_calls
-        mkdir "$folder/corpus"
-        LOGS=$folder/corpus cargo test --offline -p p2p-directory --features record,testing --test corpus --test record \
-            --test exchange -- --skip valgrind
     ) > "$folder/told" 2>&1 || { cat "$folder/told" >&2; exit 1; }
     cat "$folder"/logs/*.logs > "$folder/all"
-    cat "$folder"/corpus/*.logs > "$folder/few"
-    rm -r "$folder/logs" "$folder/corpus"
+    rm -r "$folder/logs"
     echo "recorded: $(wc -c < "$folder/all") bytes of logs"
 }
 
@@ -128,7 +124,7 @@ logs() {
         # shellcheck disable=SC2086 # no word where there is no such export
         compile "$target" c player $has tools/replay/player.c
         run "$target" player "$folder/all" "$folder/$target/answers" > "$folder/$target/told" || fail "$target answers otherwise"
-        run "$target" player --refuse "$folder/few" > "$folder/$target/refused" || fail "$target answers otherwise"
+        run "$target" player --refuse "$folder/all" > "$folder/$target/refused" || fail "$target answers otherwise"
     done
     cmp "$folder/$here/answers" "$folder/$1/answers"
     run "$here" player "$folder/$1/answers" > "$folder/lines" || fail "the answers of $1 are others on this machine"
