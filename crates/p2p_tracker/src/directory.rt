@@ -174,6 +174,7 @@ impl<C: PublicKey> Directory<C> {
     ghost use Rattle.p2p_tracker.specs.Directory.{StayReserved, Reserves, Updates, TakesSet};
     ghost use Rattle.p2p_tracker.specs.Directory.{AreTornDown, other_keys, may_listen_in};
     ghost use Rattle.p2p_tracker.specs.Directory.{may_dial_in, ingress_in};
+    ghost use Rattle.p2p_tracker.specs.Private.Dialling.{reservation_in};
     ghost use Rattle.p2p_tracker.specs.Seen.{config_view, key_of, record_of};
 
     /// A directory that retains no set and blocks nobody. It has a record of the local node and one
@@ -301,6 +302,7 @@ impl<C: PublicKey> Directory<C> {
     ///
     /// One search among the blocks; if the peer isn't blocked, one among the records; and if it is
     /// reserved, one among the cooldowns.
+    #[tactic(auto, unfolding(crate::specs::Private::Dialling::granted_of))]
     pub fn dial(
         &mut self,
         peer: &C,
@@ -325,19 +327,7 @@ impl<C: PublicKey> Directory<C> {
         ensures busy { StayBusy C.cmp self.old self.new }
         ensures reserved { StayReserved C.cmp self.old self.new }
     {
-        if self.is_blocked(peer, now) {
-            return Ok(None);
-        }
-        let cfg = self.config;
-        let Some(ingress) = self
-            .records
-            .reserve_dialled(&mut self.cooldowns, peer, now, draw, &cfg)?
-        else {
-            return Ok(None);
-        };
-        Ok(Some(Reservation {
-            metadata: Metadata::Dialer(*peer, ingress),
-        }))
+        self.reserve(peer, now, draw, true)
     }
 
     /// Reserves an inbound peer in the directory at the time `now`, a duration since the epoch.
@@ -362,6 +352,7 @@ impl<C: PublicKey> Directory<C> {
     ///
     /// One search among the blocks; if the peer isn't blocked, one among the records; and if it is
     /// reserved, one among the cooldowns.
+    #[tactic(auto, unfolding(crate::specs::Private::Dialling::granted_of))]
     pub fn listen(
         &mut self,
         peer: &C,
@@ -385,19 +376,38 @@ impl<C: PublicKey> Directory<C> {
         ensures busy { StayBusy C.cmp self.old self.new }
         ensures reserved { StayReserved C.cmp self.old self.new }
     {
+        self.reserve(peer, now, draw, false)
+    }
+
+    // Reserves the peer in the directory at the time `now` if that may be granted: for a dial if
+    // `dialer`, else inbound.
+    fn reserve(
+        &mut self,
+        peer: &C,
+        now: Duration,
+        draw: Duration,
+        dialer: bool,
+    ) -> Result<Option<Reservation<C>>, AllocError>
+        ensures err { OnErr result (self.new ≡ self.old) }
+        ensures none { IfNone (reservation_in C.cmp dialer self.old (as_nanos now) peer.now)
+            (result ≡ Ok None) }
+        ensures answer { IfOk result (λ reservation.
+            reservation ≡ reservation_in C.cmp dialer self.old (as_nanos now) peer.now) }
+        ensures refused { IfOk result (λ reservation. IfNone reservation (self.new ≡ self.old)) }
+        ensures granted { IfOk result (λ reservation. IfSome reservation (λ _.
+            Reserves C.cmp self.old self.new peer.now (as_nanos now) (as_nanos draw))) }
+    {
         if self.is_blocked(peer, now) {
             return Ok(None);
         }
-        let cooldown = self.config.peer_connection_cooldown;
-        if self
+        let cfg = &self.config;
+        let Some(metadata) = self
             .records
-            .reserve_coming(&mut self.cooldowns, peer, now, draw, cooldown)?
-        {
-            return Ok(Some(Reservation {
-                metadata: Metadata::Listener(*peer),
-            }));
-        }
-        Ok(None)
+            .reserve(&mut self.cooldowns, peer, now, draw, dialer, cfg)?
+        else {
+            return Ok(None);
+        };
+        Ok(Some(Reservation { metadata }))
     }
 
     /// Offers infos to the directory for its records of their peers. Of the known info of a peer

@@ -30,7 +30,7 @@ use Rattle.p2p_tracker.specs.Status.{is_active, is_inert}
 use Rattle.p2p_tracker.specs.Directory.{ChangesAt, ChangesRecord}
 use Rattle.p2p_tracker.specs.Directory.{is_known, released_record, address_after_release, kept_after_release, connected_record, updated_record}
 use Rattle.p2p_tracker.specs.Private.Window.{SetWithBits, plain_sets, sets_with_bits, bits_with, with_bit_of}
-use Rattle.p2p_tracker.specs.Private.Dialling.{dialled_of}
+use Rattle.p2p_tracker.specs.Private.Dialling.{granted_of}
 use Rattle.p2p_tracker.specs.Private.Counts.{IsConsistent, HasOwn, AreMarked, IsInvariant}
 use Rattle.p2p_tracker.proofs.SetsAndRecords.Counting
 use Rattle.p2p_tracker.proofs.SetsAndRecords.Counting.{one}
@@ -324,11 +324,17 @@ module _ {C S : Type 0} (cmp : C → C → Ordering) where
               (ap (λ k. option_map_or (may_come now) (old k) false) (sym (tells_apart exact p q e)) ∙ can)
           go false e = refl
 
-  -- who is dialled may come
-  pub dialled_may_come : (cfg : Config) (now : ℕ) (o : Option (RecordView C S)) (a : Ingress) →
-      option_and_then (dialled_of cfg now) o ≡ Some a → option_map_or (may_come now) o false ≡ true
-  dialled_may_come cfg now None a e = absurd cc
-  dialled_may_come cfg now (Some r) a e = go (may_be_dialled now cfg.allow_private_ips cfg.allow_dns r) refl e
+  -- who is granted a reservation may come
+  pub granted_may_come : (dialer : Bool) (cfg : ConfigView) (now : ℕ) (p : C) (o : Option (RecordView C S)) (m : Metadata C S) →
+      option_and_then (granted_of dialer cfg now p) o ≡ Some m → option_map_or (may_come now) o false ≡ true
+  unfolding granted_of
+  granted_may_come dialer cfg now p None m e = absurd cc
+  granted_may_come false cfg now p (Some r) m e = go (may_come now r) e
+    where
+      go : (b : Bool) → (if b then Some (Listener p) else None) ≡ Some m → b ≡ true
+      go true f = refl
+      go false f = absurd cc
+  granted_may_come true cfg now p (Some r) m e = go (may_be_dialled now cfg.allow_private_ips cfg.allow_dns r) refl e
     where
       known : (address : Address C S) → has_valid_ingress cfg.allow_private_ips cfg.allow_dns address ≡ true → not (is_myself address) ≡ true
       known Unknown h = absurd cc
@@ -342,7 +348,7 @@ module _ {C S : Type 0} (cmp : C → C → Ordering) where
       wanted false false pers h = h
 
       go : (b : Bool) → may_be_dialled now cfg.allow_private_ips cfg.allow_dns r ≡ b →
-          (if b then ingress_of r.address else None) ≡ Some a → may_come now r ≡ true
+          (if b then option_map (Dialer p) (ingress_of r.address) else None) ≡ Some m → may_come now r ≡ true
       go true h f =
           let parts = and_parts (is_dial_candidate cfg.allow_private_ips cfg.allow_dns r) (is_grant (reserve_answer now r)) h in
           let candidate = and_parts (is_inert r.status && is_outbound_target r) (has_valid_ingress cfg.allow_private_ips cfg.allow_dns r.address) parts.0 in

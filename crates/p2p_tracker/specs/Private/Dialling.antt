@@ -1,20 +1,25 @@
 -- Private: dials by the records alone, and what the records list.
-use Rattle.std.specs.Prelude.{ℕ, Bool, List, [], ◌∷◌, min, Option, Some, None, if◌then◌else◌}
-use Rattle.std.specs.Prelude.{nat_lt, not, ◌&&◌, ◌||◌}
-use Rattle.std.specs.Option.{option_and_then}
+use Rattle.std.specs.Prelude.{ℕ, Bool, true, false, List, [], ◌∷◌, min, Option, Some, None}
+use Rattle.std.specs.Prelude.{if◌then◌else◌, nat_lt, not, ◌&&◌, ◌||◌}
+use Rattle.std.specs.Option.{option_and_then, option_map}
 use Rattle.std.specs.declared.cmp.Ordering.{Ordering}
-use Rattle.p2p_discovery.specs.declared.types.ingress.Ingress.{Ingress}
 use Rattle.p2p_tracker.specs.declared.directory.Config.{Config}
-use Rattle.p2p_tracker.specs.Record.{DialView, ingress_of, may_be_dialled, dial_status}
-use Rattle.p2p_tracker.specs.Seen.{RecordView, record_at}
+use Rattle.p2p_tracker.specs.declared.directory.Metadata.{Metadata}
+use Rattle.p2p_tracker.specs.declared.directory.Metadata.TheVariants.{Dialer, Listener}
+use Rattle.p2p_tracker.specs.Record.{DialView, ingress_of, may_be_dialled, may_come, dial_status}
+use Rattle.p2p_tracker.specs.Seen.{RecordView, ConfigView, DirectoryView, record_at}
+use Rattle.p2p_tracker.specs.Directory.{is_blocked_in}
 use Rattle.p2p_tracker.specs.Blocks.{unblock_in}
 
 module _ {C S : Type 0} where
-  -- the ingress that a dial at a moment is granted for, by the peer's record
-  abbrev pub dialled_of : Config → ℕ → RecordView C S → Option Ingress
-  dialled_of cfg now r =
-      if may_be_dialled now cfg.allow_private_ips cfg.allow_dns r then ingress_of r.address
+  -- whom a reservation that is asked for at a moment is for, by the peer's record, if it is
+  -- granted: for a dial, or else inbound
+  unfoldable pub granted_of : Bool → ConfigView → ℕ → C → RecordView C S → Option (Metadata C S)
+  granted_of true cfg now p r =
+      if may_be_dialled now cfg.allow_private_ips cfg.allow_dns r
+      then option_map (Dialer p) (ingress_of r.address)
       else None
+  granted_of false cfg now p r = if may_come now r then Some (Listener p) else None
 
   -- when a record's peer may be dialled, asked at a moment, where its block holds until another
   abbrev pub dial_state : Config → ℕ → Option ℕ → RecordView C S → DialView
@@ -49,8 +54,15 @@ module _ {C S : Type 0} where
 
 module _ {C S : Type 0} (cmp : C → C → Ordering) where
   -- .. by the records
-  abbrev pub dialled_in : List (C × RecordView C S) → Config → ℕ → C → Option Ingress
-  dialled_in records cfg now q = option_and_then (dialled_of cfg now) (record_at cmp records q)
+  abbrev pub granted_in : Bool → ConfigView → List (C × RecordView C S) → ℕ → C →
+      Option (Metadata C S)
+  granted_in dialer cfg records now p =
+      option_and_then (granted_of dialer cfg now p) (record_at cmp records p)
+
+  -- .. by a directory
+  abbrev pub reservation_in : Bool → DirectoryView C S → ℕ → C → Option (Metadata C S)
+  reservation_in dialer d now p =
+      if is_blocked_in cmp d now p then None else granted_in dialer d.config d.records now p
 
   -- when a peer may be dialled, asked at a moment, by its entry of the records and these blocks
   abbrev pub entry_state : List (C × ℕ) → Config → ℕ → C × RecordView C S → DialView

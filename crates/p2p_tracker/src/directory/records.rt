@@ -8,15 +8,15 @@ ghost use Rattle.std.specs.List.Sorted.{IsStrictlySortedBy};
 ghost use Rattle.std.specs.Duration.{as_nanos};
 ghost use Rattle.std.specs.BTreeMap.{get, is_at};
 ghost use Rattle.p2p_tracker.specs.Status.{is_inert, is_reserved};
-ghost use Rattle.p2p_tracker.specs.Record.{may_come, reserved_record, with_cooldown};
+ghost use Rattle.p2p_tracker.specs.Record.{reserved_record, with_cooldown};
 ghost use Rattle.p2p_tracker.specs.Moments.{moments_after};
 ghost use Rattle.p2p_tracker.specs.Cooldowns.{cooldown_in};
 ghost use Rattle.p2p_tracker.specs.Private.Counts.{IsGranted};
-ghost use Rattle.p2p_tracker.specs.Private.Dialling.{dialled_of, dialled_in};
+ghost use Rattle.p2p_tracker.specs.Private.Dialling.{granted_of, granted_in};
 ghost use Rattle.p2p_tracker.specs.Directory.{has_status, is_busy, is_known, first_record};
 ghost use Rattle.p2p_tracker.specs.Directory.{released_record, kept_after_release};
 ghost use Rattle.p2p_tracker.specs.Directory.{connected_record, updated_record, ChangesAt};
-ghost use Rattle.p2p_tracker.specs.Seen.{key_of, record_at};
+ghost use Rattle.p2p_tracker.specs.Seen.{config_view, key_of, record_at};
 
 use crate::directory::{Config, Metadata};
 use crate::kept::cooldowns::Cooldowns;
@@ -75,69 +75,38 @@ impl<C: PublicKey> Records<C> {
         self.map.get(peer)
     }
 
-    /// Reserves the inbound peer among the directory's records at the time `now` if that may be
-    /// granted, and stores the times of its cooldown. One search serves both. Returns whether it
-    /// was reserved; if not, nothing has changed.
-    pub fn reserve_coming(
+    /// Reserves the peer among the directory's records at the time `now` if that may be granted,
+    /// and stores the times of its cooldown: for a dial if `dialer`, else inbound. One search
+    /// serves both. Returns whom the reservation is for; if it isn't granted, nothing has changed.
+    pub fn reserve(
         &mut self,
         cooldowns: &mut Cooldowns<C>,
         peer: &C,
         now: Duration,
         draw: Duration,
-        cooldown: Duration,
-    ) -> Result<bool, AllocError>
-        ensures err { OnErr result ((self.new ≡ self.old) × (cooldowns.new ≡ cooldowns.old)) }
-        ensures none { option_map_or (may_come (as_nanos now)) (record_at C.cmp self.old peer.now)
-            false ≡ false → result ≡ Ok false }
-        ensures answer { IfOk result (λ granted. granted ≡ option_map_or (may_come (as_nanos now))
-            (record_at C.cmp self.old peer.now) false) }
-        ensures refused { IfOk result (λ granted. granted ≡ false →
-            (self.new ≡ self.old) × (cooldowns.new ≡ cooldowns.old)) }
-        ensures granted { IfOk result (λ granted. granted ≡ true →
-            IsGranted C.cmp self.old self.new cooldowns.old cooldowns.new peer.now
-            (as_nanos now) (as_nanos draw) (as_nanos cooldown)) }
-    {
-        let Some(found) = self.map.get_mut(peer) else {
-            return Ok(false);
-        };
-        if !comes(found, now) {
-            return Ok(false);
-        }
-        keep_reserved(found, cooldowns, peer, now, draw, cooldown)?;
-        Ok(true)
-    }
-
-    /// Reserves the peer among the directory's records at the time `now` if it may be dialled then,
-    /// and stores the times of its cooldown. One search serves both. Returns the ingress to dial;
-    /// if there is none, nothing has changed.
-    pub fn reserve_dialled(
-        &mut self,
-        cooldowns: &mut Cooldowns<C>,
-        peer: &C,
-        now: Duration,
-        draw: Duration,
+        dialer: bool,
         cfg: &Config,
-    ) -> Result<Option<Ingress>, AllocError>
+    ) -> Result<Option<Metadata<C>>, AllocError>
         ensures err { OnErr result ((self.new ≡ self.old) × (cooldowns.new ≡ cooldowns.old)) }
-        ensures none { IfNone (dialled_in C.cmp self.old cfg.now (as_nanos now) peer.now)
-            (result ≡ Ok None) }
-        ensures answer { IfOk result (λ ingress.
-            ingress ≡ dialled_in C.cmp self.old cfg.now (as_nanos now) peer.now) }
-        ensures refused { IfOk result (λ ingress. IfNone ingress
+        ensures none { IfNone (granted_in C.cmp dialer (config_view cfg.now) self.old (as_nanos now)
+            peer.now) (result ≡ Ok None) }
+        ensures answer { IfOk result (λ metadata. metadata
+            ≡ granted_in C.cmp dialer (config_view cfg.now) self.old (as_nanos now) peer.now) }
+        ensures refused { IfOk result (λ metadata. IfNone metadata
             ((self.new ≡ self.old) × (cooldowns.new ≡ cooldowns.old))) }
-        ensures granted { IfOk result (λ ingress. IfSome ingress (λ _.
+        ensures granted { IfOk result (λ metadata. IfSome metadata (λ _.
             IsGranted C.cmp self.old self.new cooldowns.old cooldowns.new peer.now
             (as_nanos now) (as_nanos draw) (as_nanos cfg.now.peer_connection_cooldown))) }
     {
         let Some(found) = self.map.get_mut(peer) else {
             return Ok(None);
         };
-        let Some(ingress) = dialled_by(found, now, cfg)? else {
+        let Some(metadata) = granted_to(found, peer, now, dialer, cfg)? else {
             return Ok(None);
         };
         let cooldown = cfg.peer_connection_cooldown;
         keep_reserved(found, cooldowns, peer, now, draw, cooldown)?;
-        Ok(Some(ingress))
+        Ok(Some(metadata))
     }
 
     /// Lets the peer be reserved and dialled from the epoch on, by its record among the directory's
@@ -250,14 +219,6 @@ impl<C: PublicKey> Records<C> {
     }
 }
 
-// Whether an inbound connection of the peer of one of the directory's records may be granted at the
-// time `now`.
-fn comes<C: PublicKey>(found: &Record<C>, now: Duration) -> bool
-    ensures { result ≡ may_come (as_nanos now) found.now }
-{
-    found.eligible() && found.reserve_result(now) == ReserveResult::Reserved
-}
-
 // Reserves the peer of one of the directory's records at the time `now`, and stores its times. It
 // allocates for these before the record changes.
 fn keep_reserved<C: PublicKey>(
@@ -294,24 +255,34 @@ fn connect_record<C: PublicKey>(found: &mut Record<C>, dialer: bool)
     }
 }
 
-// The ingress to dial if a dial of the peer of one of the directory's records is granted at the
-// time `now`.
-fn dialled_by<C: PublicKey>(
+// Whom a reservation that is asked for at the time `now` is for, by the peer's record among the
+// directory's, if it is granted: for a dial if `dialer`, else inbound.
+#[tactic(auto, unfolding(crate::specs::Private::Dialling::granted_of))]
+fn granted_to<C: PublicKey>(
     found: &Record<C>,
+    peer: &C,
     now: Duration,
+    dialer: bool,
     cfg: &Config,
-) -> Result<Option<Ingress>, AllocError>
-    ensures none { IfNone (dialled_of cfg.now (as_nanos now) found.now) (result ≡ Ok None) }
-    ensures answer { IfOk result (λ ingress.
-        ingress ≡ dialled_of cfg.now (as_nanos now) found.now) }
+) -> Result<Option<Metadata<C>>, AllocError>
+    ensures none { IfNone (granted_of dialer (config_view cfg.now) (as_nanos now) peer.now
+        found.now) (result ≡ Ok None) }
+    ensures answer { IfOk result (λ metadata. metadata
+        ≡ granted_of dialer (config_view cfg.now) (as_nanos now) peer.now found.now) }
 {
-    if found.dialable(now, cfg.allow_private_ips, cfg.allow_dns) == DialStatus::Unavailable
-        || found.reserve_result(now) != ReserveResult::Reserved
-    {
+    let fits = if dialer {
+        found.dialable(now, cfg.allow_private_ips, cfg.allow_dns) != DialStatus::Unavailable
+    } else {
+        found.eligible()
+    };
+    if !fits || found.reserve_result(now) != ReserveResult::Reserved {
         return Ok(None);
     }
+    if !dialer {
+        return Ok(Some(Metadata::Listener(*peer)));
+    }
     match found.ingress() {
-        Some(ingress) => Ok(Some(ingress.clone()?)),
+        Some(ingress) => Ok(Some(Metadata::Dialer(*peer, ingress.clone()?))),
         None => Ok(None),
     }
 }
