@@ -9,7 +9,7 @@ use Rattle.std.proofs.Math.Bool.{or-true, or-false}
 use Rattle.p2p_discovery.specs.declared.discovery.Info.{Info}
 use Rattle.p2p_discovery.specs.declared.types.ingress.Ingress.{Ingress}
 use Rattle.p2p_tracker.specs.Calls.{Settings, Direction, Event}
-use Rattle.p2p_tracker.specs.Calls.Event.{Nothing, SetTaken, Granted, Connected, Released, Updated, Blocked, Expired, Forgot}
+use Rattle.p2p_tracker.specs.Calls.Event.{Connected, Released, Updated}
 use Rattle.p2p_tracker.specs.History
 use Rattle.p2p_tracker.specs.Lists.{earlier_best, first_greatest}
 use Rattle.p2p_tracker.specs.World
@@ -28,8 +28,6 @@ module _ {C S : Type 0} where
   later_none (Some i) = refl
 
   later_assoc : (a b c : Option (Info C S)) → later (later a b) c ≡ later a (later b c)
-  later_assoc None b c = refl
-  later_assoc (Some i) None c = refl
   later_assoc (Some i) (Some j) None = later_none (later (Some i) (Some j))
   later_assoc (Some i) (Some j) (Some k) = go (nat_lt i.timestamp j.timestamp) (nat_lt j.timestamp k.timestamp) refl refl
     where
@@ -43,6 +41,7 @@ module _ {C S : Type 0} where
       go false false e f =
           let le : k.timestamp ≤ i.timestamp = omega (arith, ltb-false i.timestamp j.timestamp e, ltb-false j.timestamp k.timestamp f) in
           ap (λ b. if b then Some k else Some i) (le-ltb i.timestamp k.timestamp le) ∙ sym (ap (λ b. if b then Some j else Some i) e)
+  later_assoc _ _ c = refl
 
   pub first_greatest-append : (xs ys : List (Info C S)) → first_greatest (xs ++ ys) ≡ later (first_greatest xs) (first_greatest ys)
   first_greatest-append [] ys = refl
@@ -317,14 +316,9 @@ module _ {C S : Type 0} (s : Settings C S) where
 
   pub known_step : (p : C) (e : Event C S) (l : List (Event C S)) → World.known_in s p (e ∷ l) ≡ World.known_after s p e (World.known_in s p l)
   known_step p (Updated infos) l = known_updated p infos l (History.is_own s p) refl
-  known_step p (Granted q grant) l = nothing_known p (Granted q grant) l refl (λ a. refl) refl
   known_step p (Connected q dialer) l = known_connected p q dialer l
   known_step p (Released q direction) l = known_released p q direction l
-  known_step p Nothing l = nothing_known p Nothing l refl (λ a. refl) refl
-  known_step p (SetTaken taken) l = nothing_known p (SetTaken taken) l refl (λ a. refl) refl
-  known_step p (Blocked q t) l = nothing_known p (Blocked q t) l refl (λ a. refl) refl
-  known_step p (Expired t) l = nothing_known p (Expired t) l refl (λ a. refl) refl
-  known_step p (Forgot t) l = nothing_known p (Forgot t) l refl (λ a. refl) refl
+  known_step p e l = nothing_known p e l refl (λ a. refl) refl
 
   -- what is known of a peer with no life
   pub known_nothing : (p : C) → World.known_in s p [] ≡ World.new_known s p

@@ -65,10 +65,9 @@ stays target present (Some m) d t u absent le next = blocked target present (nat
 
 -- who isn't present isn't entitled
 not_entitled : (own persistent named rest : Bool) → (persistent || named || rest) ≡ false → (own && (named || persistent)) ≡ false
-not_entitled own true named rest e = absurd (cc)
-not_entitled own false true rest e = absurd (cc)
 not_entitled true false false rest e = refl
 not_entitled false false false rest e = refl
+not_entitled own _ _ rest e = absurd (cc)
 
 module _ {C S : Type 0} (s : Settings C S) where
   absent : (p : C) (w : World C S) → is_present_in s w p ≡ false → is_target s p w.sets (w.peer p) ≡ false

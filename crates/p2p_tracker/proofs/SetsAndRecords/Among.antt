@@ -215,8 +215,6 @@ module _ {C : Type 0} {cmp : C → C → Ordering} (total : IsTotalOrder cmp) wh
   -- whoever has no place has no bit
   pub found_nowhere : CmpEqualImpliesEq cmp → (ps : List C) (bits : List Bool) (q : C) →
       ((k : ℕ) → ¬ (IsPlaceOf q ps k)) → lookup (is_at (cmp q)) (zip ps bits) ≡ None
-  found_nowhere exact [] bits q absent = refl
-  found_nowhere exact (p ∷ ps) [] q absent = refl
   found_nowhere exact (p ∷ ps) (b ∷ bits) q absent =
       go (is_at (cmp q) p) refl (found_nowhere exact ps bits q
       (λ k at. absent (suc k) (record { in_range = omega (arith, at.in_range); at_place = at.at_place })))
@@ -228,3 +226,4 @@ module _ {C : Type 0} {cmp : C → C → Ordering} (total : IsTotalOrder cmp) wh
         at_place = sym (exact q p (Equal-from_is_eq (cmp q p) e));
       }))
       go false e rest = rest
+  found_nowhere exact _ _ q absent = refl

@@ -27,21 +27,18 @@ use Rattle.p2p_tracker.proofs.SetsAndRecords.Walked.{behind_equal, behind_greate
 -- THE PEERS THAT ARE LEFT
 
 all_zip : {A B : Type 0} (P : A → Type 0) (ps : List A) (bs : List B) → AllByRecursion P ps → AllByRecursion P (keys_of (zip ps bs))
-all_zip P [] bs all = tt
-all_zip P (p ∷ ps) [] all = tt
 all_zip P (p ∷ ps) (b ∷ bs) all = (all.0, all_zip P ps bs all.1)
+all_zip P _ _ all = tt
 
 -- with their bits they are in order
 pub sorted_zip : {A B : Type 0} (cmp : A → A → Ordering) (ps : List A) (bs : List B) → IsStrictlySortedBy cmp ps → IsStrictlySortedBy cmp (keys_of (zip ps bs))
 unfolding IsStrictlySortedBy
-sorted_zip cmp [] bs up = tt
-sorted_zip cmp (p ∷ ps) [] up = tt
 sorted_zip cmp (p ∷ ps) (b ∷ bs) up = (all_zip (λ y. cmp p y ≡ Less) ps bs up.0, sorted_zip cmp ps bs up.1)
+sorted_zip cmp _ _ up = tt
 
 sorted_drop : {A B : Type 0} (cmp : A → A → Ordering) (n : ℕ) (es : List (A × B)) → IsStrictlySortedBy cmp (keys_of es) → IsStrictlySortedBy cmp (keys_of (drop n es))
-sorted_drop cmp zero es up = up
-sorted_drop cmp (suc n) [] up = up
 sorted_drop cmp (suc n) (e ∷ es) up = sorted_drop cmp n es (sorted_tail cmp e.0 (keys_of es) up)
+sorted_drop cmp _ _ up = up
 
 -- the one at a place, with its bit, and those behind it
 head_at : {A B : Type 0} (ps : List A) (bs : List B) (j : ℕ) (q : A) → j < length ps → length bs ≡ length ps → q ≡ get_or ps j q →
@@ -117,13 +114,11 @@ module _ {C : Type 0} (cmp : C → C → Ordering) (key : C) where
 
 is_less : (o : Ordering) → is_lt o ≡ true → o ≡ Less
 is_less Less e = refl
-is_less Equal e = absurd cc
-is_less Greater e = absurd cc
+is_less _ e = absurd cc
 
 is_greater : (o : Ordering) → is_lt o ≡ false → is_eq o ≡ false → o ≡ Greater
-is_greater Less e f = absurd cc
-is_greater Equal e f = absurd cc
 is_greater Greater e f = refl
+is_greater _ e f = absurd cc
 
 module _ {C S : Type 0} {cmp : C → C → Ordering} (total : IsTotalOrder cmp) (millis : ℕ) where
   -- what is shared of what was found at a peer whose bit is 0

@@ -11,7 +11,6 @@ use Rattle.std.proofs.lemmas.Map.Views.{tells_apart}
 use Rattle.std.proofs.Math.Bool.{and-false}
 use Rattle.p2p_discovery.specs.declared.discovery.Info.{Info}
 use Rattle.p2p_discovery.specs.declared.types.ingress.Ingress.{Ingress}
-use Rattle.p2p_tracker.specs.declared.directory.Config.{Config}
 use Rattle.p2p_tracker.specs.declared.directory.Metadata.{Metadata}
 use Rattle.p2p_tracker.specs.declared.directory.Metadata.TheVariants.{Dialer, Listener}
 use Rattle.p2p_tracker.specs.declared.record.Address.{Address}
@@ -75,14 +74,12 @@ module _ {C S : Type 0} where
   }
 
   update_own : (info : Info C S) (a : Address C S) → is_myself (address_after_update info a) ≡ is_myself a
-  update_own info Unknown = refl
-  update_own info (Myself own) = refl
-  update_own info (Bootstrapper ingress) = refl
   update_own info (Discovered known fails) = go (nat_lt known.timestamp info.timestamp)
     where
       go : (b : Bool) → is_myself (if b then Discovered info 0 else Discovered known fails) ≡ false
       go true = refl
       go false = refl
+  update_own info _ = refl
 
   infos_own : (o : Option (Info C S)) (a : Address C S) → is_myself (address_after_offer o a) ≡ is_myself a
   infos_own None a = refl
@@ -121,10 +118,8 @@ module _ {C S : Type 0} where
       idle Active e = absurd cc
 
       wants : (a : Address C S) → is_active r.status ≡ false → wants_by limit Reserved a ≡ wants_by limit r.status a
-      wants Unknown e = refl
-      wants (Myself own) e = refl
-      wants (Bootstrapper ingress) e = refl
       wants (Discovered info fails) e = ap (λ b. not b && nat_le limit fails) (sym e)
+      wants _ e = refl
 
   -- one more info is offered after those before, where it is of the record's peer
   pub updated_more : (here : Bool) (infos : List (Info C S)) (i : Info C S)
@@ -162,9 +157,7 @@ module _ {C S : Type 0} where
 
   failed_own : (ingress : Ingress) (a : Address C S) → is_myself (after_failure ingress a) ≡ is_myself a
   failed_own ingress Unknown = refl
-  failed_own ingress (Myself own) = refl
-  failed_own ingress (Bootstrapper before) = refl
-  failed_own ingress (Discovered info fails) = refl
+  failed_own ingress _ = refl
 
   released_own : (m : Metadata C S) (a : Address C S) → is_myself (address_after_release m a) ≡ is_myself a
   released_own (Listener p) a = refl
@@ -343,9 +336,8 @@ module _ {C S : Type 0} (cmp : C → C → Ordering) where
       known (Discovered info fails) h = refl
 
       wanted : (prim sec pers : Bool) → (prim || pers) ≡ true → (prim || sec || pers) ≡ true
-      wanted true sec pers h = refl
-      wanted false true pers h = refl
       wanted false false pers h = h
+      wanted _ _ pers h = refl
 
       go : (b : Bool) → may_be_dialled now cfg.allow_private_ips cfg.allow_dns r ≡ b →
           (if b then option_map (Dialer p) (ingress_of r.address) else None) ≡ Some m → may_come now r ≡ true

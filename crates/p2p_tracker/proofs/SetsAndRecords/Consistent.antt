@@ -141,9 +141,8 @@ module _ {C S : Type 0} (cmp : C → C → Ordering) where
       made b o = cond b (Some (new_record (Myself own) true)) (option_map (λ ingress. new_record (Bootstrapper ingress) true) o)
 
       none : (b : Bool) (o : Option Ingress) → IfSome (made b o) (λ r. is_deletable r ≡ false)
-      none true o = refl
       none false None = tt
-      none false (Some a) = refl
+      none _ _ = refl
 
       counts_first : (b : Bool) (o : Option Ingress) → AreCounted cmp [] own.public_key (made b o)
       counts_first true o = (refl, refl)
@@ -167,9 +166,8 @@ module _ {C S : Type 0} (cmp : C → C → Ordering) where
       is false (Some a) = refl
 
       lasts : (b : Bool) (o : Option Ingress) → IfSome (made b o) (λ r. is_myself r.address ≡ true → r.persistent ≡ true)
-      lasts true o = λ e. refl
       lasts false None = tt
-      lasts false (Some a) = λ e. refl
+      lasts _ _ = λ e. refl
 
   -- A SET
 
@@ -394,9 +392,8 @@ surplus_is max (x ∷ xs) set some few = go (nat_lt max (length (x ∷ (xs ++ se
     n = length x.primary + length x.secondary
 
     go : (b : Bool) → nat_lt max (length (x ∷ (xs ++ set ∷ []))) ≡ b → (d : Bool) → (length (x ∷ xs) == max) ≡ d → (if b then n else 0) ≤ (if d then n else 0)
-    go true e true f = omega arith
     go true e false f = absurd (grind (arith, nat_tests, length-append xs (set ∷ [])))
-    go false e d f = omega arith
+    go _ e _ f = omega arith
 
 pub room_left : {C : Type 0} (max max2 room count : ℕ) (sets sets1 : List (SetAt C)) (made : SetAt C) →
     max2 ≡ max → sets1 ≡ sets ++ made ∷ [] → 0 < max → length sets ≤ max → count ≡ leaving_count max2 sets →

@@ -98,8 +98,7 @@ module _ {C S : Type 0} (cmp : C → C → Ordering) where
 
       by : (here there : Bool) → clear there (clear (here || false) o) ≡ clear (here || there) o
       by true true = cleared_twice o
-      by true false = refl
-      by false there = refl
+      by _ _ = refl
 
       go : (b : Bool) → clear (has_key cmp (keys_of rest) q) (clear (has_key cmp (keys_of (cond b (e ∷ []) [])) q) o)
           ≡ clear (has_key cmp (keys_of (cond b (e ∷ rest) rest)) q) o

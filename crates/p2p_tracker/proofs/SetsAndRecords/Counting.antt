@@ -89,8 +89,7 @@ minus_none n = omega arith
 
 and_last : (x y : Bool) → false ≡ (x && (y && false))
 and_last true true = refl
-and_last true false = refl
-and_last false y = refl
+and_last _ _ = refl
 
 unwanted : (w i : Bool) → (not w && i) ≡ true → false ≡ w
 unwanted true i e = absurd (cc)

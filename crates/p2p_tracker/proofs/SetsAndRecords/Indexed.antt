@@ -348,9 +348,7 @@ module _ {C : Type 0} where
       go : (b c : Bool) →
           bit_if known b p.at (bit_if known c r.at x) ≡ bit_if known c r.at (bit_if known b p.at x)
       go true true = ap (λ es. record x { primary = es }) (with_bit_swap known r.at p.at x.primary)
-      go true false = refl
-      go false true = refl
-      go false false = refl
+      go _ _ = refl
 
   all_swap : (known : Bool) (p r : Place) (sets : List (SetWithBits C)) →
       map (bit_at known p) (map (bit_at known r) sets) ≡ map (bit_at known r) (map (bit_at known p) sets)

@@ -137,10 +137,8 @@ left_step test all e left left2 is whole any = whole (ap (list_any test) is ∙ 
 -- LEAST MOMENTS
 
 pub earliest_assoc : (a b c : Option ℕ) → earliest (earliest a b) c ≡ earliest a (earliest b c)
-earliest_assoc None b c = refl
-earliest_assoc (Some a) None c = refl
-earliest_assoc (Some a) (Some b) None = refl
 earliest_assoc (Some a) (Some b) (Some c) = ap Some (omega arith)
+earliest_assoc _ _ _ = refl
 
 -- the least moment so far, with that of those that are left
 pub least_step : {A : Type 0} (moment : A → Option ℕ) (so_far so_far2 all : Option ℕ) (e : A)

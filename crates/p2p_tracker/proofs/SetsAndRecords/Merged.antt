@@ -117,21 +117,6 @@ linked index own (Some p) here below =
     let other : (p.set == index) ≡ false = grind (arith, nat_tests, below) in
     ap (λ b. cond b None (Some p)) other
 
--- .. is a place, unless it is of the set itself
-is_new_link : (index : ℕ) (p : Place) → not (is_some (link_of index p)) ≡ (p.set == index)
-is_new_link index p = go (p.set == index)
-  where
-    go : (b : Bool) → not (is_some (cond b None (Some p))) ≡ b
-    go true = refl
-    go false = refl
-
-pub new_counted : (index : ℕ) (ps : List Place) →
-    count_by (λ p. p.set == index) ps ≡ count_by (λ o. not (is_some o)) (map (link_of index) ps)
-new_counted index [] = refl
-new_counted index (p ∷ ps) = count_cons (λ (x : Place). x.set == index) p ps
-    ∙ (λ i. one (sym (is_new_link index p) i) + new_counted index ps i)
-    ∙ sym (count_cons (λ (o : Option Place). not (is_some o)) (link_of index p) (map (link_of index) ps))
-
 module _ {C : Type 0} {cmp : C → C → Ordering} (total : IsTotalOrder cmp) (exact : CmpEqualImpliesEq cmp) where
   -- what is behind a key has the places that it had
   pub place_behind : (k q : C) (es : List (C × Place)) → cmp k q ≡ Less →

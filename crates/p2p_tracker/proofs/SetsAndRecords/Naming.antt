@@ -1,5 +1,5 @@
 -- Keys named one after another by a list without repeats.
-use Rattle.std.proofs.Common.{◌≡◌, ℕ, ◌+◌, ◌<◌, Bool, true, false, cond, ◌||◌, ◌&&◌, zero, suc, List, [], ◌∷◌, ◌++◌}
+use Rattle.std.proofs.Common.{◌≡◌, ℕ, ◌+◌, ◌<◌, Bool, true, false, cond, ◌||◌, ◌&&◌, suc, List, [], ◌∷◌, ◌++◌}
 use Rattle.std.proofs.Common.{take, drop, length, get_or, sym, ap, refl, ◌∙◌, subst, arith}
 use mathlib.Core.Bool.{true≢false}
 use Rattle.std.specs.declared.cmp.Ordering.{Ordering}
@@ -53,23 +53,20 @@ pub names-filter : {C : Type 0} {cmp : C → C → Ordering} → CmpEqualImplies
 names-filter {cmp = cmp} exact test keys q = any-filter_same (λ k. is_at (cmp k) q) test (test q) (λ k e. ap test (tells_apart exact k q e)) keys
 
 all_take : {A : Type 0} (P : A → Type 0) (i : ℕ) (xs : List A) → AllByRecursion P xs → AllByRecursion P (take i xs)
-all_take P zero xs h = tt
-all_take P (suc i) [] h = tt
 all_take P (suc i) (x ∷ xs) h = (h.0, all_take P i xs h.1)
+all_take P _ _ h = tt
 
 -- the first of sorted keys are sorted
 pub sorted_take : {C : Type 0} (cmp : C → C → Ordering) (i : ℕ) (keys : List C) → IsStrictlySortedBy cmp keys → IsStrictlySortedBy cmp (take i keys)
 unfolding IsStrictlySortedBy
-sorted_take cmp zero keys up = tt
-sorted_take cmp (suc i) [] up = tt
 sorted_take cmp (suc i) (x ∷ keys) up = (all_take (λ y. cmp x y ≡ Less) i keys up.0, sorted_take cmp i keys up.1)
+sorted_take cmp _ _ up = tt
 
 -- .. and so are the others
 pub sorted_drop : {C : Type 0} (cmp : C → C → Ordering) (i : ℕ) (keys : List C) → IsStrictlySortedBy cmp keys → IsStrictlySortedBy cmp (drop i keys)
 unfolding IsStrictlySortedBy
-sorted_drop cmp zero keys up = up
-sorted_drop cmp (suc i) [] up = up
 sorted_drop cmp (suc i) (x ∷ keys) up = sorted_drop cmp i keys up.1
+sorted_drop cmp _ _ up = up
 
 -- the first of those that are left
 pub first_left : {A : Type 0} (xs : List A) (i : ℕ) (x : A) → i < length xs → x ≡ get_or xs i x →

@@ -5,9 +5,9 @@ use mathlib.Core.Bool.{true≢false}
 use Rattle.std.specs.Prelude.{is_some}
 use Rattle.std.specs.BTreeMap.{is_at}
 use Rattle.std.specs.Cmp.{IsTotalOrder, eq_by_cmp_equiv}
-use Rattle.std.specs.List.{remove, slice_set}
+use Rattle.std.specs.List.{slice_set}
 use Rattle.std.specs.List.Sorted.{IsStrictlySortedBy, IsPartitionPoint, IsSortedBy}
-use Rattle.std.specs.Map.{keys_of, lookup, remove_entry, set_value}
+use Rattle.std.specs.Map.{keys_of, lookup, set_value}
 use Rattle.std.specs.Ordering.{is_eq, is_lt, ordering_reverse}
 use Rattle.std.specs.declared.cmp.Ordering.{Ordering}
 use Rattle.std.specs.declared.cmp.Ordering.TheVariants.{Less, Greater}
@@ -66,17 +66,6 @@ module _ {C X : Type 0} {cmp : C → C → Ordering} (total : IsTotalOrder cmp) 
   written_at (x ∷ xs) (suc i) p d v up low e =
       ap (λ ys. x ∷ ys) (written_at xs i p d v (sorted_tail cmp x.0 (keys_of xs) up) (omega arith) e)
       ∙ sym (ap (λ b. cond b ((x.0, v) ∷ xs) (x ∷ set_value (is_at (cmp p)) xs v)) (before x xs i p d up (omega arith) e))
-
-  -- .. when it is taken out
-  pub removed_at : (xs : List (C × X)) (i : ℕ) (p : C) (d : C × X) →
-      IsStrictlySortedBy cmp (keys_of xs) → i < length xs → (get_or xs i d).0 ≡ p →
-      remove xs i ≡ remove_entry (is_at (cmp p)) xs
-  removed_at [] i p d up low e = absurd (omega arith)
-  removed_at (x ∷ xs) zero p d up low e =
-      sym (ap (λ b. cond b xs (x ∷ remove_entry (is_at (cmp p)) xs)) (itself total p x.0 e))
-  removed_at (x ∷ xs) (suc i) p d up low e =
-      ap (λ ys. x ∷ ys) (removed_at xs i p d (sorted_tail cmp x.0 (keys_of xs) up) (omega arith) e)
-      ∙ sym (ap (λ b. cond b xs (x ∷ remove_entry (is_at (cmp p)) xs)) (before x xs i p d up (omega arith) e))
 
   -- where a search finds none there is none
   nobody : (xs : List (C × X)) (p : C) →

@@ -83,13 +83,12 @@ module _ {C S : Type 0} (cmp : C → C → Ordering) where
 -- the pair at a place, and those behind it
 pub pair_at : {A B : Type 0} (ps : List A) (bs : List B) (i : ℕ) (p : A) (b : B) → slice_get ps i ≡ Some p →
     slice_get bs i ≡ Some b → drop i (zip ps bs) ≡ (p, b) ∷ drop (suc i) (zip ps bs)
-pair_at [] bs i p b e f = absurd cc
-pair_at (q ∷ ps) [] i p b e f = absurd cc
 pair_at (q ∷ ps) (c ∷ bs) zero p b e f = λ k. (some_is q p e k, some_is c b f k) ∷ zip ps bs
   where
     some_is : {X : Type 0} (x y : X) → Some x ≡ Some y → x ≡ y
     some_is x y e = cc
 pair_at (q ∷ ps) (c ∷ bs) (suc i) p b e f = pair_at ps bs i p b e f
+pair_at _ _ i p b e f = absurd cc
 
 -- no more is chosen than there are
 few_chosen : {A B X : Type 0} (choose : A × B → Option X) (ps : List A) (bs : List B) → length (filter_map choose (zip ps bs)) ≤ length bs

@@ -241,8 +241,7 @@ module _ {C V : Type 0} {cmp : C → C → Ordering} (total : IsTotalOrder cmp) 
           ap (λ o. option_map_or test o false) (lookup_head (is_at (cmp k)) e es (ap is_eq is))
           ∙ fails
           ∙ sym (ap (λ o. option_map_or test o false) (ap (λ x. lookup (is_at (cmp x)) es) (tells_apart exact k e.0 (ap is_eq is)) ∙ behind))
-      same Less is = ap (λ o. option_map_or test o false) (lookup_tail (is_at (cmp k)) e es (ap is_eq is))
-      same Greater is = ap (λ o. option_map_or test o false) (lookup_tail (is_at (cmp k)) e es (ap is_eq is))
+      same _ is = ap (λ o. option_map_or test o false) (lookup_tail (is_at (cmp k)) e es (ap is_eq is))
 
   -- THE STEP: the next entry, and the keys above its own
   module _ (left left2 : List (C × V)) (e : C × V) (is : left ≡ e ∷ left2) (up : IsStrictlySortedBy cmp (keys_of left)) where

@@ -33,13 +33,12 @@ IsElsewhere ns o = IfSome o (λ p. has_index ns p.set ≡ false)
 -- sets that a place is not in are passed
 pub passed : (before : Option Place → List Place) (ns : List ℕ) (ls : List (List (Option Place))) (o : Option Place) →
     IsElsewhere ns o → met before ns ls o ≡ before o
-passed before [] ls o h = refl
-passed before (n ∷ ns) [] o h = refl
 passed before (n ∷ ns) (l ∷ ls) None h = passed (met_in before n l) ns ls None tt
 passed before (n ∷ ns) (l ∷ ls) (Some p) h =
     let parts = or_parts (n == p.set) (has_index ns p.set) h in
     passed (met_in before n l) ns ls (Some p) parts.1
     ∙ ap (λ b. cond b (before (get_or l p.at None) ++ p ∷ []) (before (Some p))) parts.0
+passed before _ _ o h = refl
 
 -- from a place in one of the sets, a walk goes on from what stands beside it
 pub met_at : (before : Option Place → List Place) (ns : List ℕ) (ls : List (List (Option Place))) (i : ℕ)
@@ -72,26 +71,23 @@ met_at before (n ∷ ns) (l ∷ ls) (suc i) p up e low is =
 -- as many lists as sets
 pub as_many : (ns : List ℕ) (ls : List (List (Option Place))) → AreEarlier ns ls → length ns ≡ length ls
 as_many [] [] e = refl
-as_many [] (l ∷ ls) e = absurd e
-as_many (n ∷ ns) [] e = absurd e
 as_many (n ∷ ns) (l ∷ ls) e = ap suc (as_many ns ls e.1)
+as_many _ _ e = absurd e
 
 -- one more set
 pub met_more : (before : Option Place → List Place) (ns : List ℕ) (ls : List (List (Option Place))) (n : ℕ)
     (l : List (Option Place)) (o : Option Place) → length ns ≡ length ls →
     met before (ns ++ n ∷ []) (ls ++ l ∷ []) o ≡ met_in (met before ns ls) n l o
-met_more before [] [] n l None e = refl
-met_more before [] [] n l (Some p) e = refl
 met_more before [] (k ∷ ls) n l o e = absurd (omega (arith, e))
 met_more before (m ∷ ns) [] n l o e = absurd (omega (arith, e))
 met_more before (m ∷ ns) (k ∷ ls) n l o e = met_more (met_in before m k) ns ls n l o (omega (arith, e))
+met_more before [] [] n l _ e = refl
 
 pub earlier_more : (ns : List ℕ) (ls : List (List (Option Place))) (n : ℕ) (l : List (Option Place)) →
     AreEarlier ns ls → AllByRecursion (λ o. IfSome o (λ p. p.set < n)) l → AreEarlier (ns ++ n ∷ []) (ls ++ l ∷ [])
 earlier_more [] [] n l e h = (h, tt)
-earlier_more [] (k ∷ ls) n l e h = absurd e
-earlier_more (m ∷ ns) [] n l e h = absurd e
 earlier_more (m ∷ ns) (k ∷ ls) n l e h = (e.0, earlier_more ns ls n l e.1 h)
+earlier_more _ _ n l e h = absurd e
 
 -- WITHOUT ONE SET
 
@@ -103,8 +99,6 @@ is_outside n p = not (n == p.set)
 alike : (n : ℕ) (ns : List ℕ) (ls : List (List (Option Place))) (f g : Option Place → List Place) →
     ((o : Option Place) → filter (is_outside n) (f o) ≡ filter (is_outside n) (g o)) → (o : Option Place) →
     filter (is_outside n) (met f ns ls o) ≡ filter (is_outside n) (met g ns ls o)
-alike n [] ls f g h o = h o
-alike n (m ∷ ns) [] f g h o = h o
 alike n (m ∷ ns) (l ∷ ls) f g h o = alike n ns ls (met_in f m l) (met_in g m l) step o
   where
     step : (o : Option Place) → filter (is_outside n) (met_in f m l o) ≡ filter (is_outside n) (met_in g m l o)
@@ -117,13 +111,12 @@ alike n (m ∷ ns) (l ∷ ls) f g h o = alike n ns ls (met_in f m l) (met_in g m
             ∙ ap (λ ps. ps ++ filter (is_outside n) (p ∷ [])) (h (get_or l p.at None))
             ∙ sym (filter-append (is_outside n) (g (get_or l p.at None)) (p ∷ []))
         go false = h (Some p)
+alike n _ _ f g h o = h o
 
 -- a walk through other sets meets no place in it
 outside : (n : ℕ) (ns : List ℕ) (ls : List (List (Option Place))) (f : Option Place → List Place) →
     has_index ns n ≡ false → ((o : Option Place) → filter (is_outside n) (f o) ≡ f o) → (o : Option Place) →
     filter (is_outside n) (met f ns ls o) ≡ met f ns ls o
-outside n [] ls f none h o = h o
-outside n (m ∷ ns) [] f none h o = h o
 outside n (m ∷ ns) (l ∷ ls) f none h o =
     outside n ns ls (met_in f m l) (or_parts (m == n) (has_index ns n) none).1 step o
   where
@@ -141,6 +134,7 @@ outside n (m ∷ ns) (l ∷ ls) f none h o =
             ∙ ap (λ ps. ps ++ filter (is_outside n) (p ∷ [])) (h (get_or l p.at None))
             ∙ ap (λ b. f (get_or l p.at None) ++ cond (not b) (p ∷ []) []) other
         go false e = h (Some p)
+outside n _ _ f none h o = h o
 
 -- where the first set goes, a walk meets the other places
 pub met_later : (n : ℕ) (l : List (Option Place)) (ns : List ℕ) (ls : List (List (Option Place))) (o : Option Place)

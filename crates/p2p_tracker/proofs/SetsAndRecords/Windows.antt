@@ -1,5 +1,5 @@
 -- Retained sets with their bits: what a new bit leaves, and that their indices ascend.
-use Rattle.std.proofs.Common.{◌≡◌, ℕ, zero, suc, ◌<◌, ◌≤◌, ◌+◌, Bool, true, false, cond, List, [], ◌∷◌, ◌++◌, map, take}
+use Rattle.std.proofs.Common.{◌≡◌, ℕ, zero, suc, ◌<◌, ◌+◌, Bool, true, false, cond, List, [], ◌∷◌, ◌++◌, map, take}
 use Rattle.std.proofs.Common.{drop, length, get_or, Option, Some, None, sym, ap, refl, subst, ◌∙◌, arith}
 use Rattle.std.specs.Prelude.{◌==◌, nat_lt, nat_eq, find, slice_get}
 use Rattle.std.specs.declared.cmp.Ordering.{Ordering}
@@ -30,9 +30,8 @@ unset_is (q ∷ peers) = ap (λ es. (q, false) ∷ es) (unset_is peers)
 
 -- a new bit leaves the peers
 pub keys_with_bit : {P : Type 0} (es : List (P × Bool)) (i : ℕ) (b : Bool) → keys_of (with_bit es i b) ≡ keys_of es
-keys_with_bit [] i b = refl
-keys_with_bit (e ∷ es) zero b = refl
 keys_with_bit (e ∷ es) (suc i) b = ap (λ ks. e.0 ∷ ks) (keys_with_bit es i b)
+keys_with_bit _ _ b = refl
 
 pub keys_with_bits : {P : Type 0} (known : P → Bool) (peers : List P) → keys_of (map (λ q. (q, known q)) peers) ≡ peers
 keys_with_bits known [] = refl
@@ -60,14 +59,6 @@ keys_of_front known [] zero = refl
 keys_of_front known [] (suc i) = refl
 keys_of_front known (e ∷ es) zero = refl
 keys_of_front known (e ∷ es) (suc i) = ap (λ ks. e.0 ∷ ks) (keys_of_front known es i)
-
--- .. and all of them are the bits that peers have
-pub all_known : {P : Type 0} (known : P → Bool) (es : List (P × Bool)) (i : ℕ) → length es ≤ i →
-    map (λ q. (q, known q)) (take i (keys_of es)) ++ drop i es ≡ map (λ q. (q, known q)) (keys_of es)
-all_known known [] zero le = refl
-all_known known [] (suc i) le = refl
-all_known known (e ∷ es) zero le = absurd (omega (arith, le))
-all_known known (e ∷ es) (suc i) le = ap (λ rest. (e.0, known e.0) ∷ rest) (all_known known es i (omega (arith, le)))
 
 module _ {C : Type 0} (cmp : C → C → Ordering) where
   pub keys_bits_with : (p : C) (b : Bool) (es : List (C × Bool)) → keys_of (bits_with cmp p b es) ≡ keys_of es
