@@ -23,9 +23,8 @@ is_byte n h zero = h
 is_byte n h (suc i) = omega arith
 
 only : (b : List ℕ) (n : ℕ) → IsSized 1 b → one b ≡ Some n → IsByte n × (spelled n ≡ b)
-only [] n sized e = absurd (cc)
 only (c ∷ []) n sized e = (subst IsByte (inside c n e) (sized.1 0), ap spelled (sym (inside c n e)))
-only (c ∷ d ∷ rest) n sized e = absurd (cc)
+only _ n sized e = absurd (cc)
 
 pub is_fixed : IsFixed 1 spelled one IsByte
 is_fixed = record {

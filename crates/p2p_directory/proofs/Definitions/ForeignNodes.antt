@@ -92,12 +92,7 @@ neither infos (inr e) = absurd (cc)
 applied_is : (r : Exchanged ℕ ℕ) (may : Bool) (o : ExchangeOutcome ℕ ℕ) (infos : List (Info ℕ ℕ)) →
     infos_applied r ≡ Some infos → o ≡ Applied infos → IsExchangeAnswer may o r
 applied_is (exchanged.Applied v) may o infos told is = is ∙ ap Applied (sym (inside v.items infos told))
-applied_is exchanged.NoSet may o infos told is = absurd (cc)
-applied_is (exchanged.AskRefused fault) may o infos told is = absurd (cc)
-applied_is exchanged.Malformed may o infos told is = absurd (cc)
-applied_is (exchanged.ReplyRefused fault) may o infos told is = absurd (cc)
-applied_is (exchanged.Invalid error) may o infos told is = absurd (cc)
-applied_is exchanged.Memory may o infos told is = absurd (cc)
+applied_is _ may o infos told is = absurd (cc)
 
 -- the first set tears nobody down
 nobody : (s : Settings ℕ ℕ) → IsAnswer s [] (track 0 (1 ∷ 2 ∷ [])) (reply.Track (Some []))

@@ -56,14 +56,7 @@ lasting_step {E} {A} gives ends e h = go (gives e) (last_with gives h)
 module _ {C S : Type 0} (s : Settings C S) where
   pub retained_step : (e : Event C S) (h : List (Event C S)) → History.retained_sets s (e ∷ h) ≡ World.sets_after s e (History.retained_sets s h)
   retained_step (SetTaken taken) h = last_of-push s.max_sets (History.taken_sets s h) taken
-  retained_step Nothing h = ap (last_of s.max_sets) (append-nil (History.taken_sets s h))
-  retained_step (Granted q grant) h = ap (last_of s.max_sets) (append-nil (History.taken_sets s h))
-  retained_step (Connected q dialer) h = ap (last_of s.max_sets) (append-nil (History.taken_sets s h))
-  retained_step (Released q direction) h = ap (last_of s.max_sets) (append-nil (History.taken_sets s h))
-  retained_step (Updated infos) h = ap (last_of s.max_sets) (append-nil (History.taken_sets s h))
-  retained_step (Blocked q t) h = ap (last_of s.max_sets) (append-nil (History.taken_sets s h))
-  retained_step (Expired t) h = ap (last_of s.max_sets) (append-nil (History.taken_sets s h))
-  retained_step (Forgot t) h = ap (last_of s.max_sets) (append-nil (History.taken_sets s h))
+  retained_step _ h = ap (last_of s.max_sets) (append-nil (History.taken_sets s h))
 
   -- STATUS
 
@@ -101,14 +94,7 @@ module _ {C S : Type 0} (s : Settings C S) where
           ≡ (if b then Reserved else History.status_at s p h)
       go true = refl
       go false = other_status p (Granted q grant) (last_with (History.grant_by s p) h)
-  status_step p Nothing h = other_status p Nothing (last_with (History.grant_by s p) h)
-  status_step p (SetTaken taken) h = other_status p (SetTaken taken) (last_with (History.grant_by s p) h)
-  status_step p (Connected q dialer) h = other_status p (Connected q dialer) (last_with (History.grant_by s p) h)
-  status_step p (Released q direction) h = other_status p (Released q direction) (last_with (History.grant_by s p) h)
-  status_step p (Updated infos) h = other_status p (Updated infos) (last_with (History.grant_by s p) h)
-  status_step p (Blocked q t) h = other_status p (Blocked q t) (last_with (History.grant_by s p) h)
-  status_step p (Expired t) h = other_status p (Expired t) (last_with (History.grant_by s p) h)
-  status_step p (Forgot t) h = other_status p (Forgot t) (last_with (History.grant_by s p) h)
+  status_step p e h = other_status p e (last_with (History.grant_by s p) h)
 
   -- WHAT LASTS
 
@@ -128,13 +114,7 @@ module _ {C S : Type 0} (s : Settings C S) where
       go true None = refl
       go true (Some g) = refl
       go false held = lasted_none held
-  held_step p (Connected q dialer) h = held_step_of p (Connected q dialer) h ∙ lasted_none (History.held_at s p h)
-  held_step p Nothing h = held_step_of p Nothing h ∙ lasted_none (History.held_at s p h)
-  held_step p (SetTaken taken) h = held_step_of p (SetTaken taken) h ∙ lasted_none (History.held_at s p h)
-  held_step p (Updated infos) h = held_step_of p (Updated infos) h ∙ lasted_none (History.held_at s p h)
-  held_step p (Blocked q t) h = held_step_of p (Blocked q t) h ∙ lasted_none (History.held_at s p h)
-  held_step p (Expired t) h = held_step_of p (Expired t) h ∙ lasted_none (History.held_at s p h)
-  held_step p (Forgot t) h = held_step_of p (Forgot t) h ∙ lasted_none (History.held_at s p h)
+  held_step p e h = held_step_of p e h ∙ lasted_none (History.held_at s p h)
 
   unblock_step_of : (p : C) (e : Event C S) (h : List (Event C S)) →
       History.unblock_at s p (e ∷ h) ≡ lasted (History.block_by s p e) (λ m. History.is_expiry s m e) (History.unblock_at s p h)
@@ -153,13 +133,7 @@ module _ {C S : Type 0} (s : Settings C S) where
       go : (moment : Option ℕ) → lasted None (λ m. nat_le m t) moment ≡ World.unblock_after s p (Expired t) moment
       go None = refl
       go (Some m) = refl
-  unblock_step p Nothing h = unblock_step_of p Nothing h ∙ lasted_none (History.unblock_at s p h)
-  unblock_step p (SetTaken taken) h = unblock_step_of p (SetTaken taken) h ∙ lasted_none (History.unblock_at s p h)
-  unblock_step p (Granted q grant) h = unblock_step_of p (Granted q grant) h ∙ lasted_none (History.unblock_at s p h)
-  unblock_step p (Connected q dialer) h = unblock_step_of p (Connected q dialer) h ∙ lasted_none (History.unblock_at s p h)
-  unblock_step p (Released q direction) h = unblock_step_of p (Released q direction) h ∙ lasted_none (History.unblock_at s p h)
-  unblock_step p (Updated infos) h = unblock_step_of p (Updated infos) h ∙ lasted_none (History.unblock_at s p h)
-  unblock_step p (Forgot t) h = unblock_step_of p (Forgot t) h ∙ lasted_none (History.unblock_at s p h)
+  unblock_step p e h = unblock_step_of p e h ∙ lasted_none (History.unblock_at s p h)
 
   -- what is kept of the last grant
   kept_step : (p : C) (e : Event C S) (h : List (Event C S)) →
@@ -190,15 +164,7 @@ module _ {C S : Type 0} (s : Settings C S) where
           elim (nat_le (History.moments_of s g).dial_at t) as
           (λ b. option_map (History.moments_of s) (if b then None else Some g)
           ≡ (if b then None else Some (History.moments_of s g))) [ true ↦ refl | false ↦ refl ]
-  cooldown_step p Nothing h = kept_step p Nothing h ∙ kept_same (last_unless_ended (History.grant_by s p) (History.is_forgetting s) h)
-  cooldown_step p (SetTaken taken) h = kept_step p (SetTaken taken) h ∙ kept_same (last_unless_ended (History.grant_by s p) (History.is_forgetting s) h)
-  cooldown_step p (Connected q dialer) h = kept_step p (Connected q dialer) h ∙ kept_same (last_unless_ended (History.grant_by s p) (History.is_forgetting s) h)
-  cooldown_step p (Released q direction) h =
-      kept_step p (Released q direction) h
-      ∙ kept_same (last_unless_ended (History.grant_by s p) (History.is_forgetting s) h)
-  cooldown_step p (Updated infos) h = kept_step p (Updated infos) h ∙ kept_same (last_unless_ended (History.grant_by s p) (History.is_forgetting s) h)
-  cooldown_step p (Blocked q t) h = kept_step p (Blocked q t) h ∙ kept_same (last_unless_ended (History.grant_by s p) (History.is_forgetting s) h)
-  cooldown_step p (Expired t) h = kept_step p (Expired t) h ∙ kept_same (last_unless_ended (History.grant_by s p) (History.is_forgetting s) h)
+  cooldown_step p e h = kept_step p e h ∙ kept_same (last_unless_ended (History.grant_by s p) (History.is_forgetting s) h)
 
 -- WHAT A CALL MAY MAKE: a question makes no event
 
@@ -244,15 +210,13 @@ makes {C} {S} s sets w (Release p) = go _
     go : (held : Option Grant) → Makes (Release p) (World.release_event s p held)
     go None = tt
     go (Some grant) = refl
-makes {C} {S} s sets w (Update infos) = refl
 makes {C} {S} s sets w (Block p t) = go _
   where
     go : (b : Bool) → Makes {S = S} (Block p t) (if b then Blocked p t else Nothing)
     go true = refl
     go false = tt
-makes {C} {S} s sets w (UnblockExpired t) = refl
-makes {C} {S} s sets w (ForgetCooled t) = refl
 makes {C} {S} s sets w (Ask question) = tt
+makes {C} {S} s sets w _ = refl
 
 -- what holds of a call and what it does holds of an equal call and its event
 pub at_call : {C S : Type 0} (s : Settings C S) (sets : List (SetAt C)) (w : World C S) {c d : Call C S} {e : Event C S} (F : Call C S → Event C S → Type 0) →

@@ -41,10 +41,9 @@ IsAnswerAt (suc k) before (c ∷ cs) (r ∷ rs) = IsAnswerAt k ((c, r) ∷ befor
 
 answer_at : (k : ℕ) (before : Done ℕ ℕ) (cs : List (NetworkCommand ℕ ℕ)) (rs : List (NetworkReply ℕ ℕ)) →
     AreNetworkAnswers wire 3 three before cs rs → IsAnswerAt k before cs rs
-answer_at k before [] rs h = tt
-answer_at k before (c ∷ cs) [] h = tt
 answer_at zero before (c ∷ cs) (r ∷ rs) h = h.0
 answer_at (suc k) before (c ∷ cs) (r ∷ rs) h = answer_at k ((c, r) ∷ before) cs rs h.1
+answer_at k before _ _ h = tt
 
 abbrev other_reply : Reply ℕ ℕ
 other_reply = reply.NotReserved

@@ -6,7 +6,7 @@ use Rattle.p2p_discovery.specs.declared.discovery.Info.{Info}
 use Rattle.p2p_tracker.specs.Lists.{earlier_best, first_greatest}
 use Rattle.p2p_tracker.specs.Moments.{epoch_millis}
 use Rattle.p2p_tracker.specs.declared.record.Status.{Status}
-use Rattle.p2p_tracker.specs.declared.record.Status.TheVariants.{Inert, Reserved, Active}
+use Rattle.p2p_tracker.specs.declared.record.Status.TheVariants.{Active}
 use Rattle.p2p_tracker.specs.Calls.{Settings, Call, SetAt, Event}
 use Rattle.p2p_tracker.specs.Calls.Event.{Updated}
 use Rattle.p2p_tracker.specs.History
@@ -108,8 +108,7 @@ module _ {C S : Type 0} (s : Settings C S) (P : Info C S → Type 0) where
 
       active : (status : Status) → Answers.active_info s status peer.known.info ≡ Some i → IsOf p i
       active Active f = known_is_given cs given p i f
-      active Inert f = absurd (cc)
-      active Reserved f = absurd (cc)
+      active _ f = absurd (cc)
 
       go : (b : Bool) → History.is_own s p ≡ b →
           (if b then Some s.own else Answers.active_info s peer.status peer.known.info) ≡ Some i →

@@ -6,7 +6,7 @@ use Rattle.std.proofs.lemmas.Bool.{leb-true, le-leb}
 use Rattle.p2p_discovery.specs.declared.discovery.Info.{Info}
 use Rattle.p2p_tracker.specs.Lists.{first_greatest}
 use Rattle.p2p_tracker.specs.declared.record.Status.{Status}
-use Rattle.p2p_tracker.specs.declared.record.Status.TheVariants.{Inert, Reserved, Active}
+use Rattle.p2p_tracker.specs.declared.record.Status.TheVariants.{Active}
 use Rattle.p2p_tracker.specs.Calls.{Settings, Call, SetAt}
 use Rattle.p2p_tracker.specs.Calls.Call.{Update}
 use Rattle.p2p_tracker.specs.History
@@ -40,13 +40,11 @@ module _ {C S : Type 0} (s : Settings C S) where
       wants_with s status (if newer then 0 else fails) (Some j) ≡ true →
       wants_with s status fails (Some i) ≡ true
   wants_some Active fails newer i j e = absurd (cc)
-  wants_some Inert fails newer i j e = limit_less s.dial_fail_limit fails newer e
-  wants_some Reserved fails newer i j e = limit_less s.dial_fail_limit fails newer e
+  wants_some _ fails newer i j e = limit_less s.dial_fail_limit fails newer e
 
   wants_none : (status : Status) (fails : ℕ) → wants_with s status fails None ≡ true
   wants_none Active fails = refl
-  wants_none Inert fails = refl
-  wants_none Reserved fails = refl
+  wants_none _ fails = refl
 
   wants_with_less : (status : Status) (fails : ℕ) (newer : Bool) (a x : Option (Info C S)) →
       wants_with s status (if newer then 0 else fails) (Knowledge.later a x) ≡ true →

@@ -65,9 +65,8 @@ module _ {C S : Type 0} (asker replier : Made C S) (v : World C S) (millis : ℕ
       go : (b : Bool) → wants asker.directory p (w.peer p) ≡ b → (o : Option (Info C S)) →
           sharable_info replier.directory v p ≡ o →
           (if b then unless_above millis o else None) ≡ Some i → IsBrought w p i
-      go true wanted None is f = absurd (cc)
       go true wanted (Some j) is f = pick j wanted is (nat_le j.timestamp millis) refl f
-      go false wanted o is f = absurd (cc)
+      go _ wanted _ is f = absurd (cc)
 
   -- where less is wanted, less is brought
   pub brought_less : (w u : World C S) (p : C) →

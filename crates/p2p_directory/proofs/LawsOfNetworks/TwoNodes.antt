@@ -17,10 +17,9 @@ weaker : {C S : Type 0} (wire : Wire C S) (size : ℕ) (node : ℕ → Made C S)
     (P Q : Done C S → Type 0) → ((done : Done C S) → P done → Q done) →
     (done : Done C S) (cs : List (NetworkCommand C S)) (rs : List (NetworkReply C S)) →
     AtEachPoint wire size node P done cs rs → AtEachPoint wire size node Q done cs rs
-weaker wire size node P Q gives done [] rs h = gives done h
-weaker wire size node P Q gives done (c ∷ cs) [] h = gives done h
 weaker wire size node P Q gives done (c ∷ cs) (r ∷ rs) h =
     (gives done h.0, weaker wire size node P Q gives ((c, r) ∷ done) cs rs h.1)
+weaker wire size node P Q gives done _ _ h = gives done h
 
 pub laws_of_pair : {C S : Type 0} (wire : Wire C S) (IsKey : C → Type 0) (IsSignature : S → Type 0)
     (left right : Made C S) (cs : List (PairCommand C S)) (rs : List (PairReply C S)) →

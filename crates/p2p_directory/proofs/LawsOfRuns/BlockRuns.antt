@@ -103,9 +103,8 @@ module _ {C S : Type 0} (s : Settings C S) where
 
   grant_free : (p : C) (w : World C S) (t : ℕ) (accepted : Bool) (found : Option Grant) → GrantFits s p w t found →
       IsNotBefore (option_map (λ grant. grant.0) (if_accepted s accepted (option_map (made s) found))) (w.unblock p)
-  grant_free p w t false found f = tt
-  grant_free p w t true None f = tt
   grant_free p w t true (Some grant) f = subst (λ u. IsNotBefore (Some u) (w.unblock p)) (sym f.0) (free t (w.unblock p) f.1.unblocked)
+  grant_free p w t _ _ f = tt
 
   -- a reply that the block was taken
   abbrev SaysTaken : Event C S → Type 0

@@ -1,5 +1,5 @@
 -- Who is dialable is granted.
-use Rattle.std.proofs.Common.{◌≡◌, ℕ, ◌≤◌, Bool, true, false, not, ◌&&◌, ◌||◌, List, [], ◌∷◌, map, Option, Some, None, refl, sym, ◌∙◌, ap, arith}
+use Rattle.std.proofs.Common.{◌≡◌, ℕ, ◌≤◌, Bool, true, not, ◌&&◌, ◌||◌, List, [], ◌∷◌, map, Option, Some, None, refl, sym, ◌∙◌, ap, arith}
 use Rattle.std.specs.Prelude.{nat_le, option_map}
 use Rattle.std.specs.List.{AllByRecursion}
 use Rattle.std.specs.List.Sorted.{IsStrictlySortedBy}
@@ -64,9 +64,8 @@ module _ {C S : Type 0} (s : Settings C S) where
 
       go : (address : Option Ingress) → World.is_valid_address s address ≡ true → (may : Bool) → may ≡ true →
           IsDialled s p t draw (World.dial_event s p t draw may address)
-      go None valid may e = absurd (cc)
       go (Some a) valid true e = (a, refl)
-      go (Some a) valid false e = absurd (cc)
+      go _ valid _ e = absurd (cc)
 
   pub dialable_alike : (p : C) (t : ℕ) (w v : World C S) → SameFor p w v → is_dialable s w t p ≡ is_dialable s v t p
   dialable_alike p t w v alike = λ i. is_dialable_with s p t (alike.sets i) (alike.peer i) (alike.unblock i) (alike.cooldown i)

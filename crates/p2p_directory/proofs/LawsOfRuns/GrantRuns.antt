@@ -198,22 +198,18 @@ module _ {C S : Type 0} (s : Settings C S) where
   -- what the laws of the past say, on these
   spaced_kept : (accepted : Bool) (given : Option Grant) (found : Option (Grant × List (Event C S))) → IsSpacedUnlessForgotten s given found →
       IsGrantCooledAfter s (if_accepted accepted (option_map made given)) (option_map made (unless_ended (History.is_forgetting s) found))
-  spaced_kept false given found spaced = tt
-  spaced_kept true None found spaced = tt
-  spaced_kept true (Some grant) None spaced = tt
   spaced_kept true (Some grant) (Some found) spaced = go (list_any (History.is_forgetting s found.0) found.1) refl
     where
       go : (b : Bool) → list_any (History.is_forgetting s found.0) found.1 ≡ b →
           IsGrantCooledAfter s (Some (made grant)) (option_map made (if b then None else Some found.0))
       go true e = tt
       go false e = spaced e
+  spaced_kept _ _ _ spaced = tt
 
   spaced_last : (accepted : Bool) (given : Option Grant) (found : Option (Grant × List (Event C S))) → IsSpaced s given found →
       IsGrantCooledAfter s (if_accepted accepted (option_map made given)) (option_map (λ found. made found.0) found)
-  spaced_last false given found spaced = tt
-  spaced_last true None found spaced = tt
-  spaced_last true (Some grant) None spaced = tt
   spaced_last true (Some grant) (Some found) spaced = spaced
+  spaced_last _ _ _ spaced = tt
 
   keep_unless_forgotten_from : History.IsExact s → (p : C) (kept : Option (ℕ × ℕ)) (before cs : List (Call C S)) (rs : List (Reply C S)) →
       kept ≡ kept_in p (World.past s before) → Run.AreAnswers s before cs rs → RunKeepsCooldownUnlessForgotten s p kept cs rs

@@ -149,11 +149,10 @@ module _ {C S : Type 0} (s : Settings C S) where
           (filter (λ i. History.same s i.public_key p) ys)) else World.new_known s p)
           ≡ (if b then (if own then (w.peer p).known else World.known_with_infos s (w.peer p).known
           (filter (λ i. History.same s i.public_key p) (xs ++ ys))) else World.new_known s p)
-      go p false own = refl
-      go p true true = refl
       go p true false =
           sym (ap (World.known_with_infos s (w.peer p).known) (filter-append (λ i. History.same s i.public_key p) xs ys)
           ∙ taught-append (w.peer p).known (filter (λ i. History.same s i.public_key p) xs) (filter (λ i. History.same s i.public_key p) ys))
+      go p _ _ = refl
 
   -- worlds that are alike stay so
   pub later_alike : 1 ≤ s.max_sets → (es cs ds : List (Call C S)) → World.world_at s (World.past s cs) ≡ World.world_at s (World.past s ds) →

@@ -55,9 +55,7 @@ module _ {C S : Type 0} (wire : Wire C S) (asker replier : Standing C S) (place 
   read_off NoSet h = ap by_frame h
   read_off (AskRefused fault) h = ap by_frame h.1 ∙ ap by_answer h.2
   read_off Malformed h = ap by_frame h.1 ∙ ap by_answer h.2
-  read_off (ReplyRefused fault) h = ap by_frame h.1.1 ∙ ap by_answer h.1.2 ∙ ap by_outcome h.2
-  read_off (Invalid error) h = ap by_frame h.1.1 ∙ ap by_answer h.1.2 ∙ ap by_outcome h.2
-  read_off (Applied infos) h = ap by_frame h.1.1 ∙ ap by_answer h.1.2 ∙ ap by_outcome h.2
+  read_off _ h = ap by_frame h.1.1 ∙ ap by_answer h.1.2 ∙ ap by_outcome h.2
 
   pub carried_once : (o o2 : ExchangeOutcome C S) → IsCarried wire asker replier place s t o → IsCarried wire asker replier place s t o2 → o ≡ o2
   carried_once o o2 h h2 = sym (read_off o h) ∙ read_off o2 h2
@@ -70,23 +68,13 @@ module _ {C S : Type 0} where
   applied_by _ = None
 
   comes_once : (r : Exchanged C S) (may : Bool) (o o2 : ExchangeOutcome C S) → IsExchangeAnswer false o r → IsExchangeAnswer may o2 r → o ≡ o2
-  comes_once exchanged.NoSet may o o2 h h2 = h ∙ sym h2
-  comes_once (exchanged.AskRefused fault) may o o2 h h2 = h ∙ sym h2
-  comes_once exchanged.Malformed may o o2 h h2 = h ∙ sym h2
-  comes_once (exchanged.ReplyRefused fault) may o o2 h h2 = h ∙ sym h2
-  comes_once (exchanged.Invalid error) may o o2 h h2 = h ∙ sym h2
   comes_once exchanged.Memory may o o2 h h2 = absurd cc
-  comes_once (exchanged.Applied infos) may o o2 h h2 = h ∙ sym h2
+  comes_once _ may o o2 h h2 = h ∙ sym h2
 
   applied_alike : (r : Exchanged C S) (o : ExchangeOutcome C S) → IsExchangeAnswer false o r → infos_applied r ≡ applied_by o
   unfolding applied_by
-  applied_alike exchanged.NoSet o h = ap applied_by (sym h)
-  applied_alike (exchanged.AskRefused fault) o h = ap applied_by (sym h)
-  applied_alike exchanged.Malformed o h = ap applied_by (sym h)
-  applied_alike (exchanged.ReplyRefused fault) o h = ap applied_by (sym h)
-  applied_alike (exchanged.Invalid error) o h = ap applied_by (sym h)
   applied_alike exchanged.Memory o h = absurd cc
-  applied_alike (exchanged.Applied infos) o h = ap applied_by (sym h)
+  applied_alike _ o h = ap applied_by (sym h)
 
   not_refused : (P : Type 0) (r : Exchanged C S) (o : ExchangeOutcome C S) → IsExchangeAnswer false o r → UnlessRefused P r → P
   not_refused P r o h (inl refused) = absurd (let e : false ≡ true = subst (IsExchangeAnswer false o) refused h in cc)

@@ -1,6 +1,6 @@
 -- Which call a frame makes: an update with the infos of the frame, where it was accepted.
 use Rattle.std.proofs.Common.{◌≡◌, ℕ, Bool, true, false, List, [], ◌∷◌, Option, Some, None, Result}
-use Rattle.std.proofs.Common.{Ok, Err, refl, sym, ap, subst}
+use Rattle.std.proofs.Common.{Ok, refl, sym, ap, subst}
 use Rattle.std.specs.Prelude.{if◌then◌else◌}
 use Rattle.p2p_discovery.specs.declared.codec.error.CodecError.{CodecError}
 use Rattle.p2p_discovery.specs.declared.discovery.Error.{Error}
@@ -37,11 +37,10 @@ module _ {C S : Type 0} (wire : Wire C S) (node : Standing C S) (now : ℕ) wher
   of_infos infos (Some e) = refl
 
   of_reading : (x : Result (Payload C S × List ℕ) CodecError) → Applies (read_at wire node now x) (infos_of_reading x)
-  of_reading (Err fault) = refl
-  of_reading (Ok (said.Data message, rest)) = refl
   of_reading (Ok (said.Greeting info, rest)) = of_greeting info (refusal node.judge now info)
   of_reading (Ok (said.BitVec v, rest)) = of_bits (node.infos v.index v.bits now)
   of_reading (Ok (said.Peers infos, rest)) = of_infos infos (list_refusal node.judge now infos)
+  of_reading _ = refl
 
   -- the calls accepted after an answer
   after : (calls : List (Call C S)) (may : Bool) (o : FrameOutcome C S) (infos : List (Info C S)) (r : Received C S) → Applies o infos → frames.IsFrameAnswer may o r →
@@ -54,13 +53,9 @@ module _ {C S : Type 0} (wire : Wire C S) (node : Standing C S) (now : ℕ) wher
 
       go : (r : Received C S) → frames.IsFrameAnswer may o r → calls_with (applied_with o r) calls ≡ (if applies r then Update infos ∷ calls else calls)
       go received.Memory h = refl
-      go (received.Data message) h = is false (ap applies (sym h))
       go (received.Greeted key) h = is true (ap applies (sym h))
-      go (received.Reply frame) h = is false (ap applies (sym h))
       go (received.Applied count) h = is true (ap applies (sym h))
-      go (received.Codec fault) h = is false (ap applies (sym h))
-      go received.Malformed h = is false (ap applies (sym h))
-      go (received.Invalid error) h = is false (ap applies (sym h))
+      go _ h = is false (ap applies (sym h))
 
   pub calls_after_frame : (calls : List (Call C S)) (frame : List ℕ) (may : Bool) (r : Received C S) → frames.IsFrameAnswer may (received_at wire node frame now) r →
       calls_with (applied_with (received_at wire node frame now) r) calls

@@ -27,12 +27,11 @@ pub both_push : {A B : Type 0} (R : A → B → Type 0) (xs : List A) (ys : List
     length ys ≡ length xs → OfBoth R xs ys → R x y → OfBoth R (xs ++ x ∷ []) (ys ++ y ∷ [])
 both_push R [] [] x y same all one zero a b lt = one
 both_push R [] [] x y same all one (suc k) a b lt = absurd (omega (arith, lt))
-both_push R [] (z ∷ ys) x y same all one k a b lt = absurd (omega (arith, same))
-both_push R (z ∷ xs) [] x y same all one k a b lt = absurd (omega (arith, same))
 both_push R (z ∷ xs) (w ∷ ys) x y same all one zero a b lt = all zero a b (omega arith)
 both_push R (z ∷ xs) (w ∷ ys) x y same all one (suc k) a b lt =
     both_push R xs ys x y (omega (arith, same)) (λ j c d inside. all (suc j) c d (omega (arith, inside)))
     one k a b (omega (arith, lt))
+both_push R _ _ x y same all one k a b lt = absurd (omega (arith, same))
 
 -- one more element
 pub all_push : {A : Type 0} (P : A → Type 0) (xs : List A) (x : A) →
@@ -99,10 +98,9 @@ module _ {C S : Type 0} (wire : Wire C S) (size : ℕ) (node : ℕ → Made C S)
       IsNetworkAnswer wire size node (done_after wire size node done cs rs) c r →
       AreNetworkAnswers wire size node done (cs ++ c ∷ []) (rs ++ r ∷ [])
   answers_push done [] [] c r h last = (last, tt)
-  answers_push done [] (q ∷ rs) c r h last = absurd h
-  answers_push done (b ∷ cs) [] c r h last = absurd h
   answers_push done (b ∷ cs) (q ∷ rs) c r h last =
       (h.0, answers_push ((b, q) ∷ done) cs rs c r h.1 last)
+  answers_push done _ _ c r h last = absurd h
 
   done_push : (done : Done C S) (cs : List (NetworkCommand C S)) (rs : List (NetworkReply C S))
       (c : NetworkCommand C S) (r : NetworkReply C S) →
@@ -110,9 +108,8 @@ module _ {C S : Type 0} (wire : Wire C S) (size : ℕ) (node : ℕ → Made C S)
       done_after wire size node done (cs ++ c ∷ []) (rs ++ r ∷ [])
       ≡ (c, r) ∷ done_after wire size node done cs rs
   done_push done [] [] c r h = refl
-  done_push done [] (q ∷ rs) c r h = absurd h
-  done_push done (b ∷ cs) [] c r h = absurd h
   done_push done (b ∷ cs) (q ∷ rs) c r h = done_push ((b, q) ∷ done) cs rs c r h.1
+  done_push done _ _ c r h = absurd h
 
   -- one more command
   pub one_more : (cs : List (NetworkCommand C S)) (rs : List (NetworkReply C S))
@@ -134,7 +131,6 @@ module _ {C S : Type 0} (wire : Wire C S) (size : ℕ) (node : ℕ → Made C S)
       P (done_after wire size node done cs rs) c r →
       OfEachReply wire size node P done (cs ++ c ∷ []) (rs ++ r ∷ [])
   reply_push P done [] [] c r h each last = (last, tt)
-  reply_push P done [] (q ∷ rs) c r h each last = absurd h
-  reply_push P done (b ∷ cs) [] c r h each last = absurd h
   reply_push P done (b ∷ cs) (q ∷ rs) c r h each last =
       (each.0, reply_push P ((b, q) ∷ done) cs rs c r h.1 each.1 last)
+  reply_push P done _ _ c r h each last = absurd h

@@ -133,9 +133,7 @@ module _ {C S : Type 0} (wire : Wire C S) (size : ℕ) (node : ℕ → Made C S)
       same : (c : NetworkCommand C S) (m : Made C S) (calls : List (Call C S)) →
           calls_then wire m c reply.NoNode calls ≡ calls
       same (command.Call i x) m calls = refl
-      same (command.Ask i place) m calls = refl
-      same (command.Frame i frame now) m calls = refl
-      same (command.Exchange asker replier place now now2) m calls = refl
+      same _ m calls = refl
 
   pub call_more : (i : ℕ) (x : Command C S) (r : Reply C S) (e2 : EndpointView C S) →
       i < length es → IsEndpointServedAt (node i) (calls_at wire size node done i) (call_of x) r
@@ -305,9 +303,7 @@ room_for_grows cmp es es2 (command.Call i x) same more h = λ e lt.
     let inside = subst (λ n. i < n) same lt in
     room_grows cmp (slice_index_or es i e).slots (slice_index_or es2 i e).slots x
     (λ q. more i e q inside) (h e inside)
-room_for_grows cmp es es2 (command.Ask i place) same more h = tt
-room_for_grows cmp es es2 (command.Frame i frame now) same more h = tt
-room_for_grows cmp es es2 (command.Exchange asker replier place now now2) same more h = tt
+room_for_grows cmp es es2 _ same more h = tt
 
 -- .. or just the same
 pub room_for_stays : {C S : Type 0} (cmp : C → C → Ordering) (es es2 : List (EndpointView C S))

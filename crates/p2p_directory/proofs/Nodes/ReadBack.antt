@@ -4,7 +4,7 @@ use Rattle.std.proofs.Common.{Err, refl, ap, ◌∙◌, cond, lit<, ◌⊎◌, i
 use Rattle.std.proofs.lemmas.Bool.Decides.{nat_tests}
 use Rattle.std.specs.Prelude.{nat_lt, nat_le}
 use Rattle.p2p_discovery.specs.declared.codec.error.CodecError.{CodecError}
-use Rattle.p2p_discovery.specs.declared.codec.error.CodecError.TheVariants.{EndOfBuffer, ExtraData, InvalidLength, InvalidVarint, InvalidEnum, Invalid, Memory}
+use Rattle.p2p_discovery.specs.declared.codec.error.CodecError.TheVariants.{InvalidLength, Memory}
 use Rattle.p2p_discovery.specs.declared.codec.error.RangeCfg.{RangeCfg}
 use Rattle.p2p_discovery.specs.declared.codec.fixed.FixedBytes as fixed
 use Rattle.p2p_discovery.specs.declared.discovery.BitVec.{BitVec}
@@ -42,12 +42,7 @@ wire_in verifies key signature = wire_by key.SIZE key.spelled key.value
 -- an error is want of memory or not
 memory_or_not : (e : CodecError) → (e ≡ Memory) ⊎ (e ≢ Memory)
 memory_or_not Memory = inl refl
-memory_or_not EndOfBuffer = inr (λ h. cc)
-memory_or_not (ExtraData n) = inr (λ h. cc)
-memory_or_not (InvalidLength n) = inr (λ h. cc)
-memory_or_not (InvalidVarint n) = inr (λ h. cc)
-memory_or_not (InvalidEnum n) = inr (λ h. cc)
-memory_or_not (Invalid what) = inr (λ h. cc)
+memory_or_not _ = inr (λ h. cc)
 
 -- what the test of a limit tells of a number
 pub is_admitted : (limit n : ℕ) → nat_lt limit n ≡ false → is_within (up_to limit) n ≡ true

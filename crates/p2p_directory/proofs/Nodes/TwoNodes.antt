@@ -52,10 +52,9 @@ pub answers_count : {C S : Type 0} (wire : Wire C S) (size : ℕ) (node : ℕ �
     (done : Done C S) (cs : List (NetworkCommand C S)) (rs : List (NetworkReply C S)) →
     AreNetworkAnswers wire size node done cs rs → length rs ≡ length cs
 answers_count wire size node done [] [] h = refl
-answers_count wire size node done [] (r ∷ rs) h = absurd h
-answers_count wire size node done (c ∷ cs) [] h = absurd h
 answers_count wire size node done (c ∷ cs) (r ∷ rs) h =
     ap suc (answers_count wire size node ((c, r) ∷ done) cs rs h.1)
+answers_count wire size node done _ _ h = absurd h
 
 module _ {C S : Type 0} (wire : Wire C S) (left right : Made C S) where
   served : (c : PairCommand C S) → are_there 2 (command_in c) ≡ true
@@ -71,11 +70,7 @@ module _ {C S : Type 0} (wire : Wire C S) (left right : Made C S) where
   of_node : (done : Done C S) (c : PairCommand C S) (r : NetworkReply C S) →
       IsNetworkAnswer wire 2 (two left right) done (command_in c) r → is_of_node r ≡ true
   of_node done c reply.NoNode h = absurd (let e = served c in cc)
-  of_node done c (reply.Call r) h = refl
-  of_node done c (reply.Ask r) h = refl
-  of_node done c (reply.Frame r) h = refl
-  of_node done c (reply.Exchange r) h = refl
-  of_node done c reply.OutOfMemory h = refl
+  of_node done c _ h = refl
 
   pub are_of_nodes : (done : Done C S) (cs : List (PairCommand C S)) (rs : List (NetworkReply C S)) →
       AreNetworkAnswers wire 2 (two left right) done (commands_in cs) rs → AllPass is_of_node rs

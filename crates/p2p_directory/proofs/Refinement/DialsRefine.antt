@@ -74,9 +74,8 @@ module _ {C S : Type 0} (s : Settings C S) where
 
   -- who is to be dialled is in a set, or persistent
   target_wanted : (prim sec pers : Bool) → (prim || pers) ≡ true → ((prim || sec) || pers) ≡ true
-  target_wanted true sec pers e = refl
-  target_wanted false true pers e = refl
   target_wanted false false pers e = e
+  target_wanted _ _ pers e = refl
 
   abbrev candidate : C → List (SetAt C) → Peer C S → Bool
   candidate p sets peer =

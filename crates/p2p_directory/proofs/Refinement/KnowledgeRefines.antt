@@ -58,9 +58,8 @@ module _ {C S : Type 0} (s : Settings C S) where
 
       go : (own : Bool) (info : Option (Info C S)) →
           after_success (if own then Myself s.own else address_known given k.fails info) ≡ (if own then Myself s.own else address_known given 0 info)
-      go true info = refl
       go false None = succeeded_given given
-      go false (Some i) = refl
+      go _ _ = refl
 
   connected_address : (p : C) (k : Known C S) (dialer : Bool) →
       (if dialer then after_success (address_of s p k) else address_of s p k) ≡ address_of s p (if dialer then record k { fails = 0 } else k)
@@ -302,8 +301,7 @@ module _ {C S : Type 0} (s : Settings C S) where
   wanted_known fits given fails Inert None = wanted_given s.dial_fail_limit given Inert
   wanted_known fits given fails Reserved None = wanted_given s.dial_fail_limit given Reserved
   wanted_known fits given fails Active (Some i) = refl
-  wanted_known fits given fails Inert (Some i) = capped s.dial_fail_limit fails fits
-  wanted_known fits given fails Reserved (Some i) = capped s.dial_fail_limit fails fits
+  wanted_known fits given fails _ (Some i) = capped s.dial_fail_limit fails fits
 
   known_shown : s.dial_fail_limit < 2 ^ 64 →
       (sets : List (SetAt C)) (q : C) (cooldown : Option Cooldown) (peer : Peer C S) →

@@ -12,7 +12,7 @@ use Rattle.p2p_tracker.specs.Blocks.{is_blocked}
 use Rattle.p2p_tracker.specs.declared.record.Address.{Address}
 use Rattle.p2p_tracker.specs.declared.record.Address.TheVariants.{Unknown, Myself, Discovered}
 use Rattle.p2p_tracker.specs.declared.record.Status.{Status}
-use Rattle.p2p_tracker.specs.declared.record.Status.TheVariants.{Inert, Reserved, Active}
+use Rattle.p2p_tracker.specs.declared.record.Status.TheVariants.{Inert}
 use Rattle.p2p_tracker.specs.declared.record.dialing.ReserveResult.TheVariants as reserve
 use Rattle.p2p_tracker.specs.Calls.{Settings, SetAt, Direction, Cooldown}
 use Rattle.p2p_tracker.specs.Calls.Direction.{Listener, Dialer}
@@ -233,16 +233,12 @@ module _ {C S : Type 0} (s : Settings C S) where
       go false (Some a) any e = e
 
   pub absent_parts : (own any named inert : Bool) → (((own || any) || named) || not inert) ≡ false → (own ≡ false) × (any ≡ false) × (inert ≡ true)
-  absent_parts true any named inert e = absurd (cc)
-  absent_parts false true named inert e = absurd (cc)
-  absent_parts false false true inert e = absurd (cc)
   absent_parts false false false true e = (refl, refl, refl)
-  absent_parts false false false false e = absurd (cc)
+  absent_parts _ _ _ _ e = absurd (cc)
 
   pub inert_only : (st : Status) → is_inert st ≡ true → st ≡ Inert
   inert_only Inert e = refl
-  inert_only Reserved e = absurd (cc)
-  inert_only Active e = absurd (cc)
+  inert_only _ e = absurd (cc)
 
   no_ingress : (o : Option Ingress) → is_some o ≡ false → address_given {C = C} {S = S} o ≡ Unknown
   no_ingress None e = refl
