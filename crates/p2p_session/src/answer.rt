@@ -1,11 +1,11 @@
 //! Answers, written straight into the host's buffer: nothing is allocated.
 
 ghost use Rattle.std.specs.Prelude.{◌≡◌, ℕ, List, ◌+◌, ◌*◌, ◌≤◌, ◌<◌, ◌^◌, min, length, flat_map};
-ghost use Rattle.p2p_session.specs.Schemes.{scheme};
 ghost use Rattle.p2p_session.specs.Answers.{keys_bytes, values_bytes, put_at};
 ghost use Rattle.p2p_session.specs.Answers.{IsAnswered, asked_bytes, info_bytes};
 ghost use Rattle.p2p_discovery.specs.Varint.{groups};
 
+use crate::scheme::Keys;
 use p2p_discovery::codec::{EncodeSize, FixedBytes, PublicKey};
 use p2p_discovery::discovery::Info;
 
@@ -114,9 +114,8 @@ pub enum Values<'a, C: PublicKey> {
 
 impl<C: PublicKey> Part for Values<'_, C> {
     ghost use Rattle.p2p_session.specs.Answers.{values_bytes};
-    ghost use Rattle.p2p_session.specs.Schemes.{scheme};
 
-    ghost bytes = { values_bytes (scheme C.PublicKey C.Signature.FixedBytes) };
+    ghost bytes = { values_bytes ⟦<C as Keys>⟧.scheme };
 
     fn size(&self) -> u64 {
         match self {
@@ -147,8 +146,7 @@ impl<C: PublicKey> Part for Values<'_, C> {
 
 /// Writes an answer of one part.
 pub fn answer_one<C: PublicKey>(part: Values<'_, C>, out: &mut [u8]) -> u64
-    ensures { IsAnswered (values_bytes (scheme C.PublicKey C.Signature.FixedBytes) part.entry)
-        out.old out.new result }
+    ensures { IsAnswered (values_bytes ⟦<C as Keys>⟧.scheme part.entry) out.old out.new result }
 {
     answer(&[part], out)
 }
@@ -162,8 +160,8 @@ pub(crate) fn size_of_keys<C: PublicKey>(count: usize) -> u64
 
 // How many bytes the encoded infos of an answer are.
 fn size_of_infos<C: PublicKey>(infos: &[Info<C>]) -> u64
-    ensures { result ≡ min (length (flat_map (info_bytes (scheme C.PublicKey
-        C.Signature.FixedBytes)) infos.now)) (2 ^ 63) }
+    ensures { result ≡ min (length (flat_map (info_bytes ⟦<C as Keys>⟧.scheme) infos.now)) (2 ^
+        63) }
 {
     let mut size: u64 = 0;
     for info in infos {
@@ -174,8 +172,8 @@ fn size_of_infos<C: PublicKey>(infos: &[Info<C>]) -> u64
 
 // How many bytes of an answer are what is to be verified of the infos.
 fn size_of_asked<C: PublicKey>(infos: &[Info<C>]) -> u64
-    ensures { result ≡ min (length (flat_map (asked_bytes (scheme C.PublicKey
-        C.Signature.FixedBytes)) infos.now)) (2 ^ 63) }
+    ensures { result ≡ min (length (flat_map (asked_bytes ⟦<C as Keys>⟧.scheme) infos.now)) (2 ^
+        63) }
 {
     let mut size: u64 = 0;
     for info in infos {
@@ -186,8 +184,7 @@ fn size_of_asked<C: PublicKey>(infos: &[Info<C>]) -> u64
 
 // How many bytes of an answer are what is to be verified of the info.
 fn size_asked<C: PublicKey>(info: &Info<C>) -> u64
-    ensures size { result ≡ length ((asked_bytes (scheme C.PublicKey C.Signature.FixedBytes))
-        info.now) }
+    ensures size { result ≡ length ((asked_bytes ⟦<C as Keys>⟧.scheme) info.now) }
     ensures bound { result ≤ 2 ^ 18 }
 {
     let signed = info.ingress.encode_size() + TIMESTAMP_SIZE;
@@ -196,12 +193,9 @@ fn size_asked<C: PublicKey>(info: &Info<C>) -> u64
 
 // Writes the keys of an answer from a position on, and returns the position after them.
 fn put_keys<C: PublicKey>(out: &mut [u8], start: usize, keys: &[C]) -> usize
-    requires { start + length (keys_bytes (scheme C.PublicKey C.Signature.FixedBytes) keys.now) ≤
-        length out.old }
-    ensures bytes { out.new ≡ put_at start (keys_bytes (scheme C.PublicKey C.Signature.FixedBytes)
-        keys.now) out.old }
-    ensures end { result ≡ start + length (keys_bytes (scheme C.PublicKey C.Signature.FixedBytes)
-        keys.now) }
+    requires { start + length (keys_bytes ⟦<C as Keys>⟧.scheme keys.now) ≤ length out.old }
+    ensures bytes { out.new ≡ put_at start (keys_bytes ⟦<C as Keys>⟧.scheme keys.now) out.old }
+    ensures end { result ≡ start + length (keys_bytes ⟦<C as Keys>⟧.scheme keys.now) }
 {
     let mut at = start;
     for key in keys {
@@ -223,12 +217,11 @@ fn put_fixed<T: FixedBytes>(out: &mut [u8], at: usize, value: &T) -> usize
 
 // Writes the encoded infos of an answer from a position on, and returns the position after them.
 fn put_infos<C: PublicKey>(out: &mut [u8], start: usize, infos: &[Info<C>]) -> usize
-    requires { start + length (flat_map (info_bytes (scheme C.PublicKey C.Signature.FixedBytes))
-        infos.now) ≤ length out.old }
-    ensures bytes { out.new ≡ put_at start (flat_map (info_bytes (scheme C.PublicKey
-        C.Signature.FixedBytes)) infos.now) out.old }
-    ensures end { result ≡ start + length (flat_map (info_bytes (scheme C.PublicKey
-        C.Signature.FixedBytes)) infos.now) }
+    requires { start + length (flat_map (info_bytes ⟦<C as Keys>⟧.scheme) infos.now) ≤ length
+        out.old }
+    ensures bytes { out.new ≡ put_at start (flat_map (info_bytes ⟦<C as Keys>⟧.scheme) infos.now)
+        out.old }
+    ensures end { result ≡ start + length (flat_map (info_bytes ⟦<C as Keys>⟧.scheme) infos.now) }
 {
     let mut at = start;
     for info in infos {
@@ -239,12 +232,9 @@ fn put_infos<C: PublicKey>(out: &mut [u8], start: usize, infos: &[Info<C>]) -> u
 
 // Writes the encoded info of an answer from a position on, and returns the position after it.
 fn put_info<C: PublicKey>(out: &mut [u8], at: usize, info: &Info<C>) -> usize
-    requires { at + length ((info_bytes (scheme C.PublicKey C.Signature.FixedBytes)) info.now) ≤
-        length out.old }
-    ensures bytes { out.new ≡ put_at at ((info_bytes (scheme C.PublicKey C.Signature.FixedBytes))
-        info.now) out.old }
-    ensures end { result ≡ at + length ((info_bytes (scheme C.PublicKey C.Signature.FixedBytes))
-        info.now) }
+    requires { at + length ((info_bytes ⟦<C as Keys>⟧.scheme) info.now) ≤ length out.old }
+    ensures bytes { out.new ≡ put_at at ((info_bytes ⟦<C as Keys>⟧.scheme) info.now) out.old }
+    ensures end { result ≡ at + length ((info_bytes ⟦<C as Keys>⟧.scheme) info.now) }
 {
     let ingress = info.ingress.encoded();
     let timestamp_at = put(out, at, ingress.as_slice());
@@ -271,12 +261,11 @@ fn put_varint(out: &mut [u8], at: usize, number: u64) -> usize
 // Writes into an answer what is to be verified of the infos, from a position on, and returns the
 // position after it.
 fn put_asked<C: PublicKey>(out: &mut [u8], start: usize, infos: &[Info<C>]) -> usize
-    requires { start + length (flat_map (asked_bytes (scheme C.PublicKey C.Signature.FixedBytes))
-        infos.now) ≤ length out.old }
-    ensures bytes { out.new ≡ put_at start (flat_map (asked_bytes (scheme C.PublicKey
-        C.Signature.FixedBytes)) infos.now) out.old }
-    ensures end { result ≡ start + length (flat_map (asked_bytes (scheme C.PublicKey
-        C.Signature.FixedBytes)) infos.now) }
+    requires { start + length (flat_map (asked_bytes ⟦<C as Keys>⟧.scheme) infos.now) ≤ length
+        out.old }
+    ensures bytes { out.new ≡ put_at start (flat_map (asked_bytes ⟦<C as Keys>⟧.scheme) infos.now)
+        out.old }
+    ensures end { result ≡ start + length (flat_map (asked_bytes ⟦<C as Keys>⟧.scheme) infos.now) }
 {
     let mut at = start;
     for info in infos {
@@ -288,12 +277,9 @@ fn put_asked<C: PublicKey>(out: &mut [u8], start: usize, infos: &[Info<C>]) -> u
 // Writes into an answer what is to be verified of the info, from a position on, and returns the
 // position after it.
 fn put_question<C: PublicKey>(out: &mut [u8], at: usize, info: &Info<C>) -> usize
-    requires { at + length ((asked_bytes (scheme C.PublicKey C.Signature.FixedBytes)) info.now) ≤
-        length out.old }
-    ensures bytes { out.new ≡ put_at at ((asked_bytes (scheme C.PublicKey C.Signature.FixedBytes))
-        info.now) out.old }
-    ensures end { result ≡ at + length ((asked_bytes (scheme C.PublicKey C.Signature.FixedBytes))
-        info.now) }
+    requires { at + length ((asked_bytes ⟦<C as Keys>⟧.scheme) info.now) ≤ length out.old }
+    ensures bytes { out.new ≡ put_at at ((asked_bytes ⟦<C as Keys>⟧.scheme) info.now) out.old }
+    ensures end { result ≡ at + length ((asked_bytes ⟦<C as Keys>⟧.scheme) info.now) }
 {
     let signed = info.signed();
     let signed = signed.as_slice();

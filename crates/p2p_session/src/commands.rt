@@ -1,7 +1,6 @@
 //! Commands, decoded from what a session is given for them.
 
 ghost use Rattle.std.specs.Prelude.{◌≡◌, Ok};
-ghost use Rattle.p2p_session.specs.Schemes.{scheme};
 ghost use Rattle.p2p_session.specs.Given.{asked, and_then, IsRead, ArePeersRead, infos_spelled};
 ghost use Rattle.p2p_session.specs.Given.{bits_spelled};
 ghost use Rattle.p2p_session.specs.Sessions.{of_peer, at_moment};
@@ -10,6 +9,7 @@ ghost use Rattle.p2p_tracker.specs.Calls.Question.{BlockedAt, InfoOf, DialableAt
 
 use crate::given::{are_keys, bits, infos, key, moment, set};
 use crate::refusal::Refusal;
+use crate::scheme::Keys;
 use p2p_directory::directory::TrackedPeers;
 use p2p_directory::run::Command;
 use p2p_discovery::codec::PublicKey;
@@ -20,8 +20,7 @@ pub fn peers<C: PublicKey>(
     primary: &[u8],
     secondary: &[u8],
 ) -> Result<TrackedPeers<C>, Refusal>
-    ensures { ArePeersRead (scheme C.PublicKey C.Signature.FixedBytes) primary.now secondary.now
-        result }
+    ensures { ArePeersRead ⟦<C as Keys>⟧.scheme primary.now secondary.now result }
 {
     if !are_keys::<C>(primary) || !are_keys::<C>(secondary) {
         return Err(Refusal::BadKeys);
@@ -32,8 +31,8 @@ pub fn peers<C: PublicKey>(
 }
 
 pub fn update_peers<C: PublicKey>(alloc: Global, bytes: &[u8]) -> Result<Command<C>, Refusal>
-    ensures { IsRead (asked result) (and_then (infos_spelled (scheme C.PublicKey
-        C.Signature.FixedBytes) bytes.now) (λ is. Ok (Update is))) }
+    ensures { IsRead (asked result) (and_then (infos_spelled ⟦<C as Keys>⟧.scheme bytes.now) (λ
+        is. Ok (Update is))) }
 {
     Ok(Command::UpdatePeers(infos(alloc, bytes)?))
 }
@@ -59,8 +58,7 @@ pub fn blocked_peers<C: PublicKey>(seconds: u64, nanos: u32) -> Result<Command<C
 }
 
 pub fn info<C: PublicKey>(peer: &[u8]) -> Result<Command<C>, Refusal>
-    ensures { asked result ≡ of_peer (scheme C.PublicKey C.Signature.FixedBytes) peer.now (λ p. Ask
-        (InfoOf p)) }
+    ensures { asked result ≡ of_peer ⟦<C as Keys>⟧.scheme peer.now (λ p. Ask (InfoOf p)) }
 {
     Ok(Command::Info(key(peer).ok_or(Refusal::BadKey)?))
 }

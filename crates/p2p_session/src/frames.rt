@@ -17,7 +17,7 @@ ghost use Rattle.std.specs.Prelude.{
 ghost use Rattle.std.specs.Prelude.{take, flat_map, Ok, true};
 ghost use Rattle.p2p_discovery.specs.Reading.{IsBytes, whole};
 ghost use Rattle.std.specs.Duration.{as_nanos};
-ghost use Rattle.p2p_session.specs.Schemes.{scheme, wire};
+ghost use Rattle.p2p_session.specs.Schemes.{wire};
 ghost use Rattle.p2p_session.specs.Answers.{IsAnswered, Tells, number, asked_bytes};
 ghost use Rattle.p2p_session.specs.Given.{moment_at};
 ghost use Rattle.p2p_session.specs.Frames.{received_answer, fault_bytes, error_bytes};
@@ -41,6 +41,7 @@ use crate::answer::{Plain, Values, answer, answer_bytes};
 use crate::checked::Checked;
 use crate::given::moment;
 use crate::refusal::Refusal;
+use crate::scheme::Keys;
 use bytes::Bytes;
 use p2p_directory::node::{Answer, Node, Received};
 use p2p_discovery::codec::{CodecError, FixedBytes, PublicKey, What};
@@ -63,9 +64,8 @@ pub fn receive<C: PublicKey>(
     verdicts: &[u8],
     out: &mut [u8],
 ) -> u64
-    ensures { ReceivesAt (scheme C.PublicKey C.Signature.FixedBytes) (verdicts_in verdicts.now)
-        frame.now (moment_at time.0 time.1)
-        out.old out.new node.old node.new result }
+    ensures { ReceivesAt ⟦<C as Keys>⟧.scheme (verdicts_in verdicts.now) frame.now (moment_at
+        time.0 time.1) out.old out.new node.old node.new result }
 {
     match hear(alloc, node, checked, frame, time, verdicts, out.len()) {
         Ok(answer) => tell_answer(answer, out),
@@ -84,18 +84,15 @@ fn hear<C: PublicKey>(
     verdicts: &[u8],
     room: usize,
 ) -> Result<Answer<C>, Refusal>
-    ensures heard { IfOk result (λ a. HearsAt (scheme C.PublicKey C.Signature.FixedBytes)
-        (verdicts_in verdicts.now) frame.now
-        (moment_at time.0 time.1) node.old node.new (received_of (wire (scheme C.PublicKey
-        C.Signature.FixedBytes)) a)) }
-    ensures refused { IfErr result (MayRefuse (scheme C.PublicKey C.Signature.FixedBytes) node.old
-        (verdicts_in verdicts.now) frame.now
-        (moment_at time.0 time.1) room) }
+    ensures heard { IfOk result (λ a. HearsAt ⟦<C as Keys>⟧.scheme (verdicts_in verdicts.now)
+        frame.now (moment_at time.0 time.1) node.old node.new (received_of (wire
+        ⟦<C as Keys>⟧.scheme) a)) }
+    ensures refused { IfErr result (MayRefuse ⟦<C as Keys>⟧.scheme node.old (verdicts_in
+        verdicts.now) frame.now (moment_at time.0 time.1) room) }
     ensures same { OnErr result (node.new ≡ node.old) }
     ensures few { IfOk result AreFew }
-    ensures taken { IfOk result (λ a. IsTaken (scheme C.PublicKey C.Signature.FixedBytes) node.old
-        (verdicts_in verdicts.now) frame.now room
-        (received_of (wire (scheme C.PublicKey C.Signature.FixedBytes)) a)) }
+    ensures taken { IfOk result (λ a. IsTaken ⟦<C as Keys>⟧.scheme node.old (verdicts_in
+        verdicts.now) frame.now room (received_of (wire ⟦<C as Keys>⟧.scheme) a)) }
 {
     let now = moment(time.0, time.1)?;
     if room < 1 + C::SIZE.max(8) {
@@ -114,20 +111,15 @@ fn process<C: PublicKey>(
     now: Duration,
     verdicts: &[bool],
 ) -> Result<Answer<C>, Refusal>
-    ensures heard { IfOk result (λ a. Hears (scheme C.PublicKey C.Signature.FixedBytes) verdicts.now
-        frame.now (as_nanos now)
-        node.old node.new (received_of (wire (scheme C.PublicKey C.Signature.FixedBytes)) a)) }
-    ensures refused { IfErr result (λ why. (t room : ℕ) →
-        applied_size (scheme C.PublicKey C.Signature.FixedBytes) ≤ room →
-        MayRefuse (scheme C.PublicKey C.Signature.FixedBytes) node.old verdicts.now frame.now (Ok t)
-        room why) }
+    ensures heard { IfOk result (λ a. Hears ⟦<C as Keys>⟧.scheme verdicts.now frame.now (as_nanos
+        now) node.old node.new (received_of (wire ⟦<C as Keys>⟧.scheme) a)) }
+    ensures refused { IfErr result (λ why. (t room : ℕ) → applied_size ⟦<C as Keys>⟧.scheme ≤ room
+        → MayRefuse ⟦<C as Keys>⟧.scheme node.old verdicts.now frame.now (Ok t) room why) }
     ensures same { OnErr result (node.new ≡ node.old) }
     ensures few { IfOk result AreFew }
-    ensures counted { IfOk result (λ a. are_miscounted (wire (scheme C.PublicKey
-        C.Signature.FixedBytes))
-        (standing_of C.cmp (wire (scheme C.PublicKey C.Signature.FixedBytes)) node.old) frame.now
-        verdicts.now ≡ true
-        → IsWantOfMemory (received_of (wire (scheme C.PublicKey C.Signature.FixedBytes)) a)) }
+    ensures counted { IfOk result (λ a. are_miscounted (wire ⟦<C as Keys>⟧.scheme) (standing_of
+        C.cmp (wire ⟦<C as Keys>⟧.scheme) node.old) frame.now verdicts.now ≡ true → IsWantOfMemory
+        (received_of (wire ⟦<C as Keys>⟧.scheme) a)) }
 {
     match checked.take(frame) {
         Some(decoded) => Ok(node.answer_decoded(decoded, now, verdicts)?),
@@ -148,8 +140,8 @@ pub fn check<C: PublicKey>(
     time: (u64, u32),
     out: &mut [u8],
 ) -> u64
-    ensures { ChecksAt (scheme C.PublicKey C.Signature.FixedBytes) node.now frame.now (moment_at
-        time.0 time.1) out.old out.new result }
+    ensures { ChecksAt ⟦<C as Keys>⟧.scheme node.now frame.now (moment_at time.0 time.1) out.old
+        out.new result }
 {
     let now = match moment(time.0, time.1) {
         Ok(now) => now,
@@ -176,10 +168,9 @@ fn tell_asked<C: PublicKey>(
     now: Duration,
     out: &mut [u8],
 ) -> u64
-    ensures { IsAnswered (number (length (infos_of_payload payload.now))
-        ++ flat_map (asked_bytes (scheme C.PublicKey C.Signature.FixedBytes)) (to_ask (judge_of
-        C.cmp (wire (scheme C.PublicKey C.Signature.FixedBytes)).verifies verifier.now)
-        (as_nanos now) payload.now)) out.old out.new result }
+    ensures { IsAnswered (number (length (infos_of_payload payload.now)) ++ flat_map (asked_bytes
+        ⟦<C as Keys>⟧.scheme) (to_ask (judge_of C.cmp (wire ⟦<C as Keys>⟧.scheme).verifies
+        verifier.now) (as_nanos now) payload.now)) out.old out.new result }
 {
     match payload {
         Payload::Data(_) | Payload::BitVec(_) => answer_bytes(&0u64.to_be_bytes(), out),
@@ -197,8 +188,8 @@ fn tell_asked<C: PublicKey>(
 
 // Writes for the session that a frame has one info, and what is to be verified of it.
 fn tell_question<C: PublicKey>(info: &Info<C>, out: &mut [u8]) -> u64
-    ensures { IsAnswered (number 1 ++ asked_bytes (scheme C.PublicKey C.Signature.FixedBytes)
-        info.now) out.old out.new result }
+    ensures { IsAnswered (number 1 ++ asked_bytes ⟦<C as Keys>⟧.scheme info.now) out.old out.new
+        result }
 {
     let count = 1u64.to_be_bytes();
     answer(&[Values::Bytes(&count), Values::Question(info)], out)
@@ -208,9 +199,8 @@ fn tell_question<C: PublicKey>(info: &Info<C>, out: &mut [u8]) -> u64
 // `count` of them.
 fn tell_first<C: PublicKey>(infos: &[Info<C>], count: usize, out: &mut [u8]) -> u64
     requires { count ≤ length infos.now }
-    ensures { IsAnswered (number (length infos.now) ++ flat_map (asked_bytes (scheme C.PublicKey
-        C.Signature.FixedBytes)) (take count infos.now))
-        out.old out.new result }
+    ensures { IsAnswered (number (length infos.now) ++ flat_map (asked_bytes ⟦<C as Keys>⟧.scheme)
+        (take count infos.now)) out.old out.new result }
 {
     answer(
         &[
@@ -237,8 +227,8 @@ fn verdicts_of(alloc: Global, bytes: &[u8]) -> Result<Vec<bool>, AllocError>
 // are written.
 fn tell_answer<C: PublicKey>(answer: Answer<C>, out: &mut [u8]) -> u64
     requires { AreFew answer }
-    ensures { let k = scheme C.PublicKey C.Signature.FixedBytes in
-        Tells (received_answer k (received_of (wire k) answer)) out.old out.new result }
+    ensures { let k = ⟦<C as Keys>⟧.scheme in Tells (received_answer k (received_of (wire k)
+        answer)) out.old out.new result }
 {
     match answer {
         Answer::Infos(infos) => tell_reply(infos.as_slice(), out),
@@ -249,8 +239,8 @@ fn tell_answer<C: PublicKey>(answer: Answer<C>, out: &mut [u8]) -> u64
 // Writes for the session the infos with which a frame is replied to.
 fn tell_reply<C: PublicKey>(infos: &[Info<C>], out: &mut [u8]) -> u64
     requires { length infos.now < 2 ^ 32 }
-    ensures { IsAnswered (2 ∷ (wire (scheme C.PublicKey C.Signature.FixedBytes)).spelling (Peers
-        infos.now)) out.old out.new result }
+    ensures { IsAnswered (2 ∷ (wire ⟦<C as Keys>⟧.scheme).spelling (Peers infos.now)) out.old
+        out.new result }
 {
     let count = infos.len() as u32;
     answer(
@@ -265,8 +255,7 @@ fn tell_reply<C: PublicKey>(infos: &[Info<C>], out: &mut [u8]) -> u64
 
 // Writes what else the session's node returned for a frame.
 fn tell_received<C: PublicKey>(received: Received<C>, out: &mut [u8]) -> u64
-    ensures { Tells (received_answer (scheme C.PublicKey C.Signature.FixedBytes) received) out.old
-        out.new result }
+    ensures { Tells (received_answer ⟦<C as Keys>⟧.scheme received) out.old out.new result }
 {
     match received {
         Received::Data(sent) => tell_data(&sent, out),

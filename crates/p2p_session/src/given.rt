@@ -3,11 +3,11 @@
 ghost use Rattle.std.specs.Prelude.{◌≡◌, ℕ, ◌+◌, ◌≤◌, ◌<◌, List, ◌++◌, drop, length, true, false};
 ghost use Rattle.std.specs.Prelude.{None, IfSome, IfOk, OnErr};
 ghost use Rattle.p2p_discovery.specs.Reading.{IsBytes};
-ghost use Rattle.p2p_session.specs.Schemes.{scheme};
 ghost use Rattle.p2p_session.specs.Given.{or_bad, key_at, moment_at, nanos_of, AreKeys, AreKeysOf, IsSetOf};
 ghost use Rattle.p2p_session.specs.Given.{infos_spelled, bits_spelled, infos_of, IsRead};
 
 use crate::refusal::Refusal;
+use crate::scheme::Keys;
 use bytes::Bytes;
 use p2p_discovery::codec::{CodecError, PublicKey, RangeCfg, Read};
 use p2p_discovery::discovery::{BitVec, Info, Infos};
@@ -21,7 +21,7 @@ const NANOS_PER_SECOND: u32 = 1_000_000_000;
 /// [`Refusal::BadKey`]. An option, since a refusal in the place of the key's first byte would have
 /// the key copied in parts.
 pub fn key<C: PublicKey>(bytes: &[u8]) -> Option<C>
-    ensures { or_bad result ≡ key_at (scheme C.PublicKey C.Signature.FixedBytes) bytes.now }
+    ensures { or_bad result ≡ key_at ⟦<C as Keys>⟧.scheme bytes.now }
 {
     if bytes.len() != C::SIZE {
         return None;
@@ -41,8 +41,8 @@ pub fn moment(seconds: u64, nanos: u32) -> Result<Duration, Refusal>
 
 /// Whether the bytes given to a session are keys, one after the other.
 pub fn are_keys<C: PublicKey>(bytes: &[u8]) -> bool
-    ensures yes { result ≡ true → AreKeys (scheme C.PublicKey C.Signature.FixedBytes) bytes.now }
-    ensures no { result ≡ false → ¬ AreKeys (scheme C.PublicKey C.Signature.FixedBytes) bytes.now }
+    ensures yes { result ≡ true → AreKeys ⟦<C as Keys>⟧.scheme bytes.now }
+    ensures no { result ≡ false → ¬ AreKeys ⟦<C as Keys>⟧.scheme bytes.now }
 {
     if C::SIZE == 0 {
         return bytes.is_empty();
@@ -64,8 +64,8 @@ pub fn are_keys<C: PublicKey>(bytes: &[u8]) -> bool
 ///
 /// They are keys, as [`are_keys`] says.
 pub fn set<C: PublicKey>(alloc: Global, bytes: &[u8]) -> Result<OrderedSet<C>, AllocError>
-    requires { AreKeys (scheme C.PublicKey C.Signature.FixedBytes) bytes.now }
-    ensures set { IfOk result (IsSetOf (scheme C.PublicKey C.Signature.FixedBytes) bytes.now) }
+    requires { AreKeys ⟦<C as Keys>⟧.scheme bytes.now }
+    ensures set { IfOk result (IsSetOf ⟦<C as Keys>⟧.scheme bytes.now) }
     ensures err { OnErr result (0 < length bytes.now) }
 {
     Ok(OrderedSet::from_vec_dedup(keys(alloc, bytes)?))
@@ -73,9 +73,8 @@ pub fn set<C: PublicKey>(alloc: Global, bytes: &[u8]) -> Result<OrderedSet<C>, A
 
 // The keys in the bytes given to a session, one after the other.
 fn keys<C: PublicKey>(alloc: Global, bytes: &[u8]) -> Result<Vec<C>, AllocError>
-    requires { AreKeys (scheme C.PublicKey C.Signature.FixedBytes) bytes.now }
-    ensures are { IfOk result (λ keys.
-        AreKeysOf (scheme C.PublicKey C.Signature.FixedBytes) bytes.now keys.items) }
+    requires { AreKeys ⟦<C as Keys>⟧.scheme bytes.now }
+    ensures are { IfOk result (λ keys. AreKeysOf ⟦<C as Keys>⟧.scheme bytes.now keys.items) }
     ensures err { OnErr result (0 < length bytes.now) }
 {
     let count = bytes.len().checked_div(C::SIZE).unwrap_or(0);
@@ -115,8 +114,7 @@ pub fn are_bytes(bytes: &[u8])
 /// The infos that the bytes given to a session encode.
 #[tactic(auto, using(crate::proofs::Unread::refused_as))]
 pub fn infos<C: PublicKey>(alloc: Global, bytes: &[u8]) -> Result<Vec<Info<C>>, Refusal>
-    ensures { IsRead (infos_of result) (infos_spelled (scheme C.PublicKey C.Signature.FixedBytes)
-        bytes.now) }
+    ensures { IsRead (infos_of result) (infos_spelled ⟦<C as Keys>⟧.scheme bytes.now) }
 {
     let limit = RangeCfg {
         least: 0,

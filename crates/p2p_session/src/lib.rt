@@ -23,6 +23,7 @@ pub mod key;
 pub mod laws;
 mod refusal;
 mod reply;
+pub mod scheme;
 pub mod session;
 mod setup;
 

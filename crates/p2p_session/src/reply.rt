@@ -3,7 +3,6 @@
 ghost use Rattle.std.specs.Prelude.{◌≡◌, ◌⊎◌, ◌∷◌, IfOk, OnErr, option_map};
 ghost use Rattle.p2p_discovery.specs.Ingress.{ingress_spelling};
 ghost use Rattle.std.specs.Duration.{as_nanos};
-ghost use Rattle.p2p_session.specs.Schemes.{scheme};
 ghost use Rattle.p2p_session.specs.Frames.{held_answer};
 ghost use Rattle.p2p_session.specs.Answers.{Tells, Refuses, IsAnswered, truth};
 ghost use Rattle.p2p_session.specs.Answers.{status_number, peers_bytes, update_bytes, optional};
@@ -14,6 +13,7 @@ ghost use Rattle.p2p_discovery.specs.Info.{infos_spelling};
 
 use crate::answer::{Plain, Values, answer, answer_bytes, answer_one};
 use crate::refusal::Refusal;
+use crate::scheme::Keys;
 use bytes::Bytes;
 use p2p_directory::directory::{Metadata, PeerSetUpdate, TrackedPeers};
 use p2p_directory::record::{Dialable, Status};
@@ -30,7 +30,7 @@ use std::time::Duration;
 /// matched where it lies and not moved first.
 #[inline(always)]
 pub fn tell<C: PublicKey>(alloc: Global, reply: Reply<C>, out: &mut [u8]) -> u64
-    ensures { TellsReply (scheme C.PublicKey C.Signature.FixedBytes) reply out.old out.new result }
+    ensures { TellsReply ⟦<C as Keys>⟧.scheme reply out.old out.new result }
 {
     match reply {
         Reply::Track(torn) => tell_set(torn, out),
@@ -97,8 +97,7 @@ fn tell_dialler(ingress: &Ingress, out: &mut [u8]) -> u64
 }
 
 fn tell_set<C: PublicKey>(set: Option<OrderedSet<C>>, out: &mut [u8]) -> u64
-    ensures { Tells (optional (keys_bytes (scheme C.PublicKey C.Signature.FixedBytes)) set) out.old
-        out.new result }
+    ensures { Tells (optional (keys_bytes ⟦<C as Keys>⟧.scheme) set) out.old out.new result }
 {
     match set {
         Some(set) => answer_one(Values::Keys(set.as_slice()), out),
@@ -152,8 +151,7 @@ pub fn tell_index(index: Option<u64>, out: &mut [u8]) -> u64
 }
 
 fn tell_peers<C: PublicKey>(peers: Option<TrackedPeers<C>>, out: &mut [u8]) -> u64
-    ensures { Tells (optional (peers_bytes (scheme C.PublicKey C.Signature.FixedBytes)) peers)
-        out.old out.new result }
+    ensures { Tells (optional (peers_bytes ⟦<C as Keys>⟧.scheme) peers) out.old out.new result }
 {
     match peers {
         Some(peers) => answer_peers(&peers, out),
@@ -162,8 +160,7 @@ fn tell_peers<C: PublicKey>(peers: Option<TrackedPeers<C>>, out: &mut [u8]) -> u
 }
 
 fn answer_peers<C: PublicKey>(peers: &TrackedPeers<C>, out: &mut [u8]) -> u64
-    ensures { IsAnswered ((peers_bytes (scheme C.PublicKey C.Signature.FixedBytes)) peers.now)
-        out.old out.new result }
+    ensures { IsAnswered ((peers_bytes ⟦<C as Keys>⟧.scheme) peers.now) out.old out.new result }
 {
     let parts = [
         Values::Bytes(&(peers.primary.len() as u64).to_be_bytes()),
@@ -174,8 +171,7 @@ fn answer_peers<C: PublicKey>(peers: &TrackedPeers<C>, out: &mut [u8]) -> u64
 }
 
 fn tell_update<C: PublicKey>(update: Option<PeerSetUpdate<C>>, out: &mut [u8]) -> u64
-    ensures { Tells (optional (update_bytes (scheme C.PublicKey C.Signature.FixedBytes)) update)
-        out.old out.new result }
+    ensures { Tells (optional (update_bytes ⟦<C as Keys>⟧.scheme) update) out.old out.new result }
 {
     match update {
         Some(update) => answer_update(&update, out),
@@ -184,8 +180,7 @@ fn tell_update<C: PublicKey>(update: Option<PeerSetUpdate<C>>, out: &mut [u8]) -
 }
 
 fn answer_update<C: PublicKey>(update: &PeerSetUpdate<C>, out: &mut [u8]) -> u64
-    ensures { IsAnswered ((update_bytes (scheme C.PublicKey C.Signature.FixedBytes)) update.now)
-        out.old out.new result }
+    ensures { IsAnswered ((update_bytes ⟦<C as Keys>⟧.scheme) update.now) out.old out.new result }
 {
     let latest = &update.latest;
     let all = &update.all;
@@ -203,8 +198,8 @@ fn answer_update<C: PublicKey>(update: &PeerSetUpdate<C>, out: &mut [u8]) -> u64
 }
 
 fn tell_dialable<C: PublicKey>(dialable: &Dialable<C>, out: &mut [u8]) -> u64
-    ensures { Tells (answer_to (scheme C.PublicKey C.Signature.FixedBytes) (Reply.Dialable
-        dialable.now)) out.old out.new result }
+    ensures { Tells (answer_to ⟦<C as Keys>⟧.scheme (Reply.Dialable dialable.now)) out.old out.new
+        result }
 {
     let peers = Values::Keys(&dialable.peers);
     match dialable.next_query_at {

@@ -2,7 +2,6 @@
 
 ghost use Rattle.std.specs.Prelude.{◌≡◌, ◌<◌, ◌-◌, ◌^◌, None};
 ghost use Rattle.std.specs.Int.NonZero.{non_zero_usize_get};
-ghost use Rattle.p2p_session.specs.Schemes.{scheme};
 ghost use Rattle.p2p_session.specs.Refusals.{number_of};
 ghost use Rattle.p2p_session.specs.declared.refusal.Refusal.TheVariants.{Memory};
 ghost use Rattle.p2p_session.specs.Given.{asked, numbers_of};
@@ -13,6 +12,7 @@ use crate::checked::Checked;
 use crate::frames;
 use crate::refusal::Refusal;
 use crate::reply::{tell, tell_frame};
+use crate::scheme::Keys;
 use crate::setup::{Numbers, setup};
 use p2p_directory::node::{Node, Setup};
 use p2p_directory::run::Command;
@@ -74,11 +74,10 @@ impl<C: PublicKey> Session<C> {
         bootstrappers: &[u8],
         myself: &[u8],
     ) -> u64
-        ensures { let k = scheme C.PublicKey C.Signature.FixedBytes in
-            InitsBy k (numbers_of allow_private_ips allow_dns max_sets dial_fail_limit
-            cooldown_seconds cooldown_nanos block_seconds block_nanos max_bit_vec max_peers
-            max_data_length peer_gossip_max_count bound_seconds bound_nanos) namespace.now
-            bootstrappers.now myself.now self.old self.new result }
+        ensures { InitsBy ⟦<C as Keys>⟧.scheme (numbers_of allow_private_ips allow_dns max_sets
+            dial_fail_limit cooldown_seconds cooldown_nanos block_seconds block_nanos max_bit_vec
+            max_peers max_data_length peer_gossip_max_count bound_seconds bound_nanos)
+            namespace.now bootstrappers.now myself.now self.old self.new result }
     {
         let numbers = Numbers {
             allow_private_ips,
@@ -107,8 +106,7 @@ impl<C: PublicKey> Session<C> {
         requires none { self.old.node ≡ None }
         requires sets { non_zero_usize_get setup.cfg.max_sets < 2 ^ 64 - 1 }
         requires bits { setup.payload.max_bit_vec < 2 ^ 32 }
-        ensures made { result ≡ 1 → IsMade (scheme C.PublicKey C.Signature.FixedBytes) self.new.node
-            setup }
+        ensures made { result ≡ 1 → IsMade ⟦<C as Keys>⟧.scheme self.new.node setup }
         ensures refused { ¬ (result ≡ 1) → (self.new.node ≡ None) × (result ≡ number_of Memory) }
     {
         let Ok(node) = Node::new(alloc, setup) else {
@@ -124,8 +122,8 @@ impl<C: PublicKey> Session<C> {
     /// `None`.
     #[inline(never)]
     pub fn ask(&mut self, place: u64, out: &mut [u8]) -> u64
-        ensures { Looks (scheme C.PublicKey C.Signature.FixedBytes) (Wanted place) out.old out.new
-            self.old.node self.new.node result }
+        ensures { Looks ⟦<C as Keys>⟧.scheme (Wanted place) out.old out.new self.old.node
+            self.new.node result }
     {
         match &self.node {
             Some(node) => tell_frame(node.ask(place as usize), out),
@@ -149,8 +147,8 @@ impl<C: PublicKey> Session<C> {
         nanos: u32,
         out: &mut [u8],
     ) -> u64
-        ensures { Looks (scheme C.PublicKey C.Signature.FixedBytes) (Check frame.now seconds nanos)
-            out.old out.new self.old.node self.new.node result }
+        ensures { Looks ⟦<C as Keys>⟧.scheme (Check frame.now seconds nanos) out.old out.new
+            self.old.node self.new.node result }
     {
         match &self.node {
             Some(node) => {
@@ -174,8 +172,8 @@ impl<C: PublicKey> Session<C> {
         verdicts: &[u8],
         out: &mut [u8],
     ) -> u64
-        ensures { Receives (scheme C.PublicKey C.Signature.FixedBytes) frame.now seconds nanos
-            verdicts.now out.old out.new self.old.node self.new.node result }
+        ensures { Receives ⟦<C as Keys>⟧.scheme frame.now seconds nanos verdicts.now out.old
+            out.new self.old.node self.new.node result }
     {
         match &mut self.node {
             Some(node) => {
@@ -189,8 +187,8 @@ impl<C: PublicKey> Session<C> {
 
     // Serves the command, if the session has a node and the command was decoded. Writes its reply.
     fn serve(&mut self, command: Result<Command<C>, Refusal>, out: &mut [u8]) -> u64
-        ensures { Serves (scheme C.PublicKey C.Signature.FixedBytes) (asked command) out.old out.new
-            self.old.node self.new.node result }
+        ensures { Serves ⟦<C as Keys>⟧.scheme (asked command) out.old out.new self.old.node
+            self.new.node result }
     {
         let Some(node) = &mut self.node else {
             return Refusal::NoNode.number();

@@ -10,7 +10,6 @@ ghost use Rattle.p2p_discovery.specs.Reading.{Leaves};
 ghost use Rattle.p2p_discovery.specs.declared.types.ingress.Ingress.{Ingress};
 ghost use Rattle.std.specs.Duration.{as_nanos};
 ghost use Rattle.std.specs.Int.NonZero.{non_zero_usize_get};
-ghost use Rattle.p2p_session.specs.Schemes.{scheme};
 ghost use Rattle.p2p_session.specs.Answers.{};
 ghost use Rattle.p2p_session.specs.Given.{bootstrapper_spelling, bootstrappers_spelling};
 ghost use Rattle.p2p_session.specs.Given.{IsBootstrapper, SpellBootstrappers, IsInfoOfKeys};
@@ -20,6 +19,7 @@ ghost use Rattle.p2p_session.specs.declared.refusal.Refusal.TheVariants.{Memory,
 
 use crate::given::{are_bytes, key_in, moment};
 use crate::refusal::Refusal;
+use crate::scheme::Keys;
 use bytes::Bytes;
 use p2p_directory::directory::Config;
 use p2p_directory::node::Setup;
@@ -54,8 +54,8 @@ pub fn setup<C: PublicKey>(
     bootstrappers: &[u8],
     myself: &[u8],
 ) -> Result<Setup<C>, Refusal>
-    ensures read { IsSetupRead (scheme C.PublicKey C.Signature.FixedBytes) numbers.now namespace.now
-        bootstrappers.now myself.now result }
+    ensures read { IsSetupRead ⟦<C as Keys>⟧.scheme numbers.now namespace.now bootstrappers.now
+        myself.now result }
     ensures settings { OnOk result (are_settings numbers.now ≡ true) }
 {
     let cfg = config(numbers)?;
@@ -109,11 +109,10 @@ fn config(numbers: &Numbers) -> Result<Config, Refusal>
 
 // The info of a session's setup that the bytes encode.
 fn info<C: PublicKey>(alloc: Global, bytes: &[u8]) -> Result<Info<C>, Refusal>
-    ensures is_info { IfOk result (IsInfoOfKeys (scheme C.PublicKey C.Signature.FixedBytes)) }
+    ensures is_info { IfOk result (IsInfoOfKeys ⟦<C as Keys>⟧.scheme) }
     ensures spelled { IfOk result (λ i. info_spelling C.spelled C.Signature.spelled i ≡ bytes.now) }
-    ensures refused { IfErr result (λ why.
-        (why ≡ Memory) ⊎ ((why ≡ BadInfo) × (¬ SpellInfo (scheme C.PublicKey C.Signature.FixedBytes)
-        bytes.now))) }
+    ensures refused { IfErr result (λ why. (why ≡ Memory) ⊎ ((why ≡ BadInfo) × (¬ SpellInfo
+        ⟦<C as Keys>⟧.scheme bytes.now))) }
 {
     let bytes = Bytes::copy_from_slice(alloc, bytes)?;
     match Info::decode(alloc, bytes) {
@@ -135,12 +134,12 @@ fn undecoded(error: CodecError) -> Refusal
 // The bootstrappers of a session's setup that the bytes encode: a key and an ingress each, one
 // after the other.
 fn bootstrappers_of<C: PublicKey>(alloc: Global, bytes: &[u8]) -> Result<Vec<(C, Ingress)>, Refusal>
-    ensures are { IfOk result (λ bs. AllByRecursion
-        (IsBootstrapper (scheme C.PublicKey C.Signature.FixedBytes)) bs.items) }
-    ensures spelled { IfOk result (λ bs. bootstrappers_spelling
-        (scheme C.PublicKey C.Signature.FixedBytes) bs.items ≡ bytes.now) }
-    ensures refused { IfErr result (λ why. (why ≡ Memory) ⊎ ((why ≡ BadInfo)
-        × (¬ SpellBootstrappers (scheme C.PublicKey C.Signature.FixedBytes) bytes.now))) }
+    ensures are { IfOk result (λ bs. AllByRecursion (IsBootstrapper ⟦<C as Keys>⟧.scheme)
+        bs.items) }
+    ensures spelled { IfOk result (λ bs. bootstrappers_spelling ⟦<C as Keys>⟧.scheme bs.items ≡
+        bytes.now) }
+    ensures refused { IfErr result (λ why. (why ≡ Memory) ⊎ ((why ≡ BadInfo) × (¬
+        SpellBootstrappers ⟦<C as Keys>⟧.scheme bytes.now))) }
 {
     let bytes = Bytes::copy_from_slice(alloc, bytes)?;
     let mut left = Reader::new(&bytes);
@@ -154,18 +153,16 @@ fn bootstrappers_of<C: PublicKey>(alloc: Global, bytes: &[u8]) -> Result<Vec<(C,
 
 // A bootstrapper of a session's setup, a key and an ingress.
 fn bootstrapper<C: PublicKey>(alloc: Global, left: &mut Reader<'_>) -> Result<(C, Ingress), Refusal>
-    ensures is { IfOk result (IsBootstrapper (scheme C.PublicKey C.Signature.FixedBytes)) }
-    ensures spelled { IfOk result (λ b. left.old
-        ≡ bootstrapper_spelling (scheme C.PublicKey C.Signature.FixedBytes) b ++ left.new) }
+    ensures is { IfOk result (IsBootstrapper ⟦<C as Keys>⟧.scheme) }
+    ensures spelled { IfOk result (λ b. left.old ≡ bootstrapper_spelling ⟦<C as Keys>⟧.scheme b ++
+        left.new) }
     ensures shorter { OnOk result (length left.new < length left.old) }
-    ensures rest { OnOk result ((b : C × Ingress) (rest : List ℕ) →
-        IsBootstrapper (scheme C.PublicKey C.Signature.FixedBytes) b → left.old
-        ≡ bootstrapper_spelling (scheme C.PublicKey C.Signature.FixedBytes) b ++ rest →
+    ensures rest { OnOk result ((b : C × Ingress) (rest : List ℕ) → IsBootstrapper
+        ⟦<C as Keys>⟧.scheme b → left.old ≡ bootstrapper_spelling ⟦<C as Keys>⟧.scheme b ++ rest →
         left.new ≡ rest) }
-    ensures refused { IfErr result (λ why. (why ≡ Memory) ⊎ ((why ≡ BadInfo)
-        × ((b : C × Ingress) (rest : List ℕ) →
-        IsBootstrapper (scheme C.PublicKey C.Signature.FixedBytes) b → ¬ (left.old
-        ≡ bootstrapper_spelling (scheme C.PublicKey C.Signature.FixedBytes) b ++ rest)))) }
+    ensures refused { IfErr result (λ why. (why ≡ Memory) ⊎ ((why ≡ BadInfo) × ((b : C × Ingress)
+        (rest : List ℕ) → IsBootstrapper ⟦<C as Keys>⟧.scheme b → ¬ (left.old ≡
+        bootstrapper_spelling ⟦<C as Keys>⟧.scheme b ++ rest)))) }
 {
     let key = front_key(left)?;
     match front_ingress(alloc, left) {

@@ -1,7 +1,6 @@
 //! The calls of a session that may change its node.
 
 ghost use Rattle.std.specs.Prelude.{◌≤◌, List, ℕ, [], length};
-ghost use Rattle.p2p_session.specs.Schemes.{scheme};
 ghost use Rattle.p2p_session.specs.Given.{track_of};
 ghost use Rattle.p2p_tracker.specs.Calls.Call.{Block, Connect, Dial, ForgetCooled, Listen};
 ghost use Rattle.p2p_tracker.specs.Calls.Call.{Release, UnblockExpired};
@@ -13,6 +12,7 @@ ghost use Rattle.p2p_session.specs.Sessions.Look.{Room};
 use crate::given::{key, moment};
 use crate::refusal::Refusal;
 use crate::reply::{tell, truth_of};
+use crate::scheme::Keys;
 use crate::session::Session;
 use crate::{answer, commands};
 use p2p_directory::directory::TrackedPeers;
@@ -33,9 +33,8 @@ impl<C: PublicKey> Session<C> {
         secondary: &[u8],
         torn: &mut [u8],
     ) -> u64
-        ensures { let k = scheme C.PublicKey C.Signature.FixedBytes in OfNode (λ v v2. Tracks k
-            index primary.now secondary.now torn.old torn.new v v2 result) torn.old torn.new
-            self.old.node self.new.node result }
+        ensures { OfNode (λ v v2. Tracks ⟦<C as Keys>⟧.scheme index primary.now secondary.now
+            torn.old torn.new v v2 result) torn.old torn.new self.old.node self.new.node result }
     {
         let Some(node) = &mut self.node else {
             return Refusal::NoNode.number();
@@ -51,8 +50,8 @@ impl<C: PublicKey> Session<C> {
     /// with a record.
     #[inline(never)]
     pub fn track_room(&mut self) -> u64
-        ensures { let k = scheme C.PublicKey C.Signature.FixedBytes in (out : List ℕ) → Looks k
-            Room out out self.old.node self.new.node result }
+        ensures { (out : List ℕ) → Looks ⟦<C as Keys>⟧.scheme Room out out self.old.node
+            self.new.node result }
     {
         match &self.node {
             Some(node) => answer::size_of_keys::<C>(node.directory().tracked()),
@@ -70,9 +69,9 @@ impl<C: PublicKey> Session<C> {
         draw_seconds: u64,
         draw_nanos: u32,
     ) -> u64
-        ensures { let k = scheme C.PublicKey C.Signature.FixedBytes in Serves k (with_draw k
-            peer.now seconds nanos draw_seconds draw_nanos (λ p now draw. Dial p now draw)) [] []
-            self.old.node self.new.node result }
+        ensures { let k = ⟦<C as Keys>⟧.scheme in Serves k (with_draw k peer.now seconds nanos
+            draw_seconds draw_nanos (λ p now draw. Dial p now draw)) [] [] self.old.node
+            self.new.node result }
     {
         let Some(node) = &mut self.node else {
             return Refusal::NoNode.number();
@@ -100,9 +99,9 @@ impl<C: PublicKey> Session<C> {
         draw_seconds: u64,
         draw_nanos: u32,
     ) -> u64
-        ensures { let k = scheme C.PublicKey C.Signature.FixedBytes in Serves k (with_draw k
-            peer.now seconds nanos draw_seconds draw_nanos (λ p now draw. Listen p now draw)) []
-            [] self.old.node self.new.node result }
+        ensures { let k = ⟦<C as Keys>⟧.scheme in Serves k (with_draw k peer.now seconds nanos
+            draw_seconds draw_nanos (λ p now draw. Listen p now draw)) [] [] self.old.node
+            self.new.node result }
     {
         let Some(node) = &mut self.node else {
             return Refusal::NoNode.number();
@@ -123,8 +122,8 @@ impl<C: PublicKey> Session<C> {
     /// Calls `Directory::connect` of the session's node. Returns 1, or `NotReserved`.
     #[inline(never)]
     pub fn connect(&mut self, peer: &[u8], dialer: bool) -> u64
-        ensures { let k = scheme C.PublicKey C.Signature.FixedBytes in Serves k (of_peer k
-            peer.now (λ p. Connect p dialer)) [] [] self.old.node self.new.node result }
+        ensures { let k = ⟦<C as Keys>⟧.scheme in Serves k (of_peer k peer.now (λ p. Connect p
+            dialer)) [] [] self.old.node self.new.node result }
     {
         let Some(node) = &mut self.node else {
             return Refusal::NoNode.number();
@@ -143,8 +142,8 @@ impl<C: PublicKey> Session<C> {
     /// or `NotHeld`.
     #[inline(never)]
     pub fn release(&mut self, peer: &[u8]) -> u64
-        ensures { let k = scheme C.PublicKey C.Signature.FixedBytes in Serves k (of_peer k
-            peer.now (λ p. Release p)) [] [] self.old.node self.new.node result }
+        ensures { let k = ⟦<C as Keys>⟧.scheme in Serves k (of_peer k peer.now (λ p. Release p))
+            [] [] self.old.node self.new.node result }
     {
         let Some(node) = &mut self.node else {
             return Refusal::NoNode.number();
@@ -163,8 +162,8 @@ impl<C: PublicKey> Session<C> {
     /// encode as a list. Returns 1. The host must have made or verified the infos itself.
     #[inline(never)]
     pub fn update_peers(&mut self, alloc: Global, infos: &[u8]) -> u64
-        ensures { let k = scheme C.PublicKey C.Signature.FixedBytes in ServesRead k (updated_by k
-            infos.now) [] [] self.old.node self.new.node result }
+        ensures { let k = ⟦<C as Keys>⟧.scheme in ServesRead k (updated_by k infos.now) [] []
+            self.old.node self.new.node result }
     {
         self.serve(commands::update_peers(alloc, infos), &mut [])
     }
@@ -172,9 +171,8 @@ impl<C: PublicKey> Session<C> {
     /// Calls `Directory::block` of the session's node. Returns 1 if the block takes effect, else 0.
     #[inline(never)]
     pub fn block(&mut self, peer: &[u8], seconds: u64, nanos: u32) -> u64
-        ensures { let k = scheme C.PublicKey C.Signature.FixedBytes in Serves k (of_peer_at k
-            peer.now seconds nanos (λ p now. Block p now)) [] [] self.old.node self.new.node
-            result }
+        ensures { let k = ⟦<C as Keys>⟧.scheme in Serves k (of_peer_at k peer.now seconds nanos (λ
+            p now. Block p now)) [] [] self.old.node self.new.node result }
     {
         let Some(node) = &mut self.node else {
             return Refusal::NoNode.number();
@@ -194,8 +192,8 @@ impl<C: PublicKey> Session<C> {
     /// 0.
     #[inline(never)]
     pub fn unblock_expired(&mut self, seconds: u64, nanos: u32) -> u64
-        ensures { let k = scheme C.PublicKey C.Signature.FixedBytes in Serves k (at_moment seconds
-            nanos (λ now. UnblockExpired now)) [] [] self.old.node self.new.node result }
+        ensures { Serves ⟦<C as Keys>⟧.scheme (at_moment seconds nanos (λ now. UnblockExpired
+            now)) [] [] self.old.node self.new.node result }
     {
         let Some(node) = &mut self.node else {
             return Refusal::NoNode.number();
@@ -210,8 +208,8 @@ impl<C: PublicKey> Session<C> {
     /// forgotten.
     #[inline(never)]
     pub fn forget_cooled(&mut self, seconds: u64, nanos: u32) -> u64
-        ensures { let k = scheme C.PublicKey C.Signature.FixedBytes in Serves k (at_moment seconds
-            nanos (λ now. ForgetCooled now)) [] [] self.old.node self.new.node result }
+        ensures { Serves ⟦<C as Keys>⟧.scheme (at_moment seconds nanos (λ now. ForgetCooled now))
+            [] [] self.old.node self.new.node result }
     {
         let Some(node) = &mut self.node else {
             return Refusal::NoNode.number();
@@ -232,10 +230,10 @@ fn take_set<C: PublicKey>(
     peers: Result<TrackedPeers<C>, Refusal>,
     torn: &mut [u8],
 ) -> u64
-    ensures served { Makes (scheme C.PublicKey C.Signature.FixedBytes) (track_of index peers)
-        torn.old torn.new node.old node.new result }
-    ensures whole { room_for (scheme C.PublicKey C.Signature.FixedBytes) node.old ≤ length torn.old →
-        Fits torn.old result }
+    ensures served { Makes ⟦<C as Keys>⟧.scheme (track_of index peers) torn.old torn.new node.old
+        node.new result }
+    ensures whole { room_for ⟦<C as Keys>⟧.scheme node.old ≤ length torn.old → Fits torn.old
+        result }
 {
     match peers {
         Ok(peers) => {

@@ -1,7 +1,6 @@
 //! Questions to a session's node: the calls that change nothing.
 
 ghost use Rattle.std.specs.Prelude.{List, ℕ, Ok, []};
-ghost use Rattle.p2p_session.specs.Schemes.{scheme};
 ghost use Rattle.p2p_tracker.specs.Calls.Call.{Ask};
 ghost use Rattle.p2p_tracker.specs.Calls.Question.{AllPeers, BitsAt, BlockedAt, DialableAt};
 ghost use Rattle.p2p_tracker.specs.Calls.Question.{InfoOf, IsAcceptable, IsEligible, LatestIndex};
@@ -15,6 +14,7 @@ use crate::commands;
 use crate::given::{key, moment};
 use crate::refusal::Refusal;
 use crate::reply::{status_of, tell_held, tell_index, tell_moment, truth_of};
+use crate::scheme::Keys;
 use crate::session::Session;
 use p2p_directory::run::Command;
 use p2p_discovery::codec::PublicKey;
@@ -32,8 +32,8 @@ impl<C: PublicKey> Session<C> {
         nanos: u32,
         out: &mut [u8],
     ) -> u64
-        ensures { let k = scheme C.PublicKey C.Signature.FixedBytes in ServesRead k (infos_for k
-            bits.now seconds nanos) out.old out.new self.old.node self.new.node result }
+        ensures { let k = ⟦<C as Keys>⟧.scheme in ServesRead k (infos_for k bits.now seconds
+            nanos) out.old out.new self.old.node self.new.node result }
     {
         self.serve(commands::infos_for(alloc, bits, seconds, nanos), out)
     }
@@ -41,8 +41,8 @@ impl<C: PublicKey> Session<C> {
     /// Asks the session's node by `Directory::next_unblock`: the time, or `None`.
     #[inline(never)]
     pub fn next_unblock(&mut self, out: &mut [u8]) -> u64
-        ensures { let k = scheme C.PublicKey C.Signature.FixedBytes in Serves k (Ok (Ask
-            NextUnblock)) out.old out.new self.old.node self.new.node result }
+        ensures { Serves ⟦<C as Keys>⟧.scheme (Ok (Ask NextUnblock)) out.old out.new self.old.node
+            self.new.node result }
     {
         let Some(node) = &self.node else {
             return Refusal::NoNode.number();
@@ -53,8 +53,8 @@ impl<C: PublicKey> Session<C> {
     /// Asks the session's node by `Directory::blocked_peers`: their keys.
     #[inline(never)]
     pub fn blocked_peers(&mut self, seconds: u64, nanos: u32, out: &mut [u8]) -> u64
-        ensures { let k = scheme C.PublicKey C.Signature.FixedBytes in Serves k (at_moment seconds
-            nanos (λ now. Ask (BlockedAt now))) out.old out.new self.old.node self.new.node result }
+        ensures { Serves ⟦<C as Keys>⟧.scheme (at_moment seconds nanos (λ now. Ask (BlockedAt
+            now))) out.old out.new self.old.node self.new.node result }
     {
         self.serve(commands::blocked_peers(seconds, nanos), out)
     }
@@ -63,8 +63,8 @@ impl<C: PublicKey> Session<C> {
     /// `Active`, or `None`.
     #[inline(never)]
     pub fn status(&mut self, peer: &[u8]) -> u64
-        ensures { let k = scheme C.PublicKey C.Signature.FixedBytes in Serves k (of_peer k
-            peer.now (λ p. Ask (StatusOf p))) [] [] self.old.node self.new.node result }
+        ensures { let k = ⟦<C as Keys>⟧.scheme in Serves k (of_peer k peer.now (λ p. Ask (StatusOf
+            p))) [] [] self.old.node self.new.node result }
     {
         let Some(node) = &self.node else {
             return Refusal::NoNode.number();
@@ -79,8 +79,8 @@ impl<C: PublicKey> Session<C> {
     /// keys, and the keys of the secondary peers, or `None`.
     #[inline(never)]
     pub fn get_peer_set(&mut self, index: u64, out: &mut [u8]) -> u64
-        ensures { let k = scheme C.PublicKey C.Signature.FixedBytes in Serves k (Ok (Ask (PeerSet
-            index))) out.old out.new self.old.node self.new.node result }
+        ensures { Serves ⟦<C as Keys>⟧.scheme (Ok (Ask (PeerSet index))) out.old out.new
+            self.old.node self.new.node result }
     {
         self.serve(Ok(Command::GetPeerSet(index)), out)
     }
@@ -88,8 +88,8 @@ impl<C: PublicKey> Session<C> {
     /// Asks the session's node by `Directory::latest_set_index`: the index, or `None`.
     #[inline(never)]
     pub fn latest_set_index(&mut self, out: &mut [u8]) -> u64
-        ensures { let k = scheme C.PublicKey C.Signature.FixedBytes in Serves k (Ok (Ask
-            LatestIndex)) out.old out.new self.old.node self.new.node result }
+        ensures { Serves ⟦<C as Keys>⟧.scheme (Ok (Ask LatestIndex)) out.old out.new self.old.node
+            self.new.node result }
     {
         let Some(node) = &self.node else {
             return Refusal::NoNode.number();
@@ -102,8 +102,8 @@ impl<C: PublicKey> Session<C> {
     /// `None`.
     #[inline(never)]
     pub fn latest_update(&mut self, out: &mut [u8]) -> u64
-        ensures { let k = scheme C.PublicKey C.Signature.FixedBytes in Serves k (Ok (Ask
-            LatestUpdate)) out.old out.new self.old.node self.new.node result }
+        ensures { Serves ⟦<C as Keys>⟧.scheme (Ok (Ask LatestUpdate)) out.old out.new
+            self.old.node self.new.node result }
     {
         self.serve(Ok(Command::LatestUpdate), out)
     }
@@ -112,8 +112,8 @@ impl<C: PublicKey> Session<C> {
     /// the keys of the secondary peers.
     #[inline(never)]
     pub fn all(&mut self, out: &mut [u8]) -> u64
-        ensures { let k = scheme C.PublicKey C.Signature.FixedBytes in Serves k (Ok (Ask
-            AllPeers)) out.old out.new self.old.node self.new.node result }
+        ensures { Serves ⟦<C as Keys>⟧.scheme (Ok (Ask AllPeers)) out.old out.new self.old.node
+            self.new.node result }
     {
         self.serve(Ok(Command::All), out)
     }
@@ -121,8 +121,8 @@ impl<C: PublicKey> Session<C> {
     /// Asks the session's node by `Directory::info`: the encoded info, or `None`.
     #[inline(never)]
     pub fn info(&mut self, _alloc: Global, peer: &[u8], out: &mut [u8]) -> u64
-        ensures { let k = scheme C.PublicKey C.Signature.FixedBytes in Serves k (of_peer k
-            peer.now (λ p. Ask (InfoOf p))) out.old out.new self.old.node self.new.node result }
+        ensures { let k = ⟦<C as Keys>⟧.scheme in Serves k (of_peer k peer.now (λ p. Ask (InfoOf
+            p))) out.old out.new self.old.node self.new.node result }
     {
         self.serve(commands::info(peer), out)
     }
@@ -131,8 +131,8 @@ impl<C: PublicKey> Session<C> {
     /// index, or `None`.
     #[inline(never)]
     pub fn get_random_bit_vec(&mut self, _alloc: Global, place: u64, out: &mut [u8]) -> u64
-        ensures { let k = scheme C.PublicKey C.Signature.FixedBytes in Serves k (Ok (Ask (BitsAt
-            place))) out.old out.new self.old.node self.new.node result }
+        ensures { Serves ⟦<C as Keys>⟧.scheme (Ok (Ask (BitsAt place))) out.old out.new
+            self.old.node self.new.node result }
     {
         self.serve(Ok(Command::GetRandomBitVec(place as usize)), out)
     }
@@ -140,9 +140,8 @@ impl<C: PublicKey> Session<C> {
     /// Asks the session's node by `Directory::eligible`: 1 or 0.
     #[inline(never)]
     pub fn eligible(&mut self, peer: &[u8], seconds: u64, nanos: u32) -> u64
-        ensures { let k = scheme C.PublicKey C.Signature.FixedBytes in Serves k (of_peer_at k
-            peer.now seconds nanos (λ p now. Ask (IsEligible p now))) [] [] self.old.node
-            self.new.node result }
+        ensures { let k = ⟦<C as Keys>⟧.scheme in Serves k (of_peer_at k peer.now seconds nanos (λ
+            p now. Ask (IsEligible p now))) [] [] self.old.node self.new.node result }
     {
         let Some(node) = &self.node else {
             return Refusal::NoNode.number();
@@ -157,9 +156,8 @@ impl<C: PublicKey> Session<C> {
     /// Asks the session's node by `Directory::acceptable`: 1 or 0.
     #[inline(never)]
     pub fn acceptable(&mut self, peer: &[u8], seconds: u64, nanos: u32) -> u64
-        ensures { let k = scheme C.PublicKey C.Signature.FixedBytes in Serves k (of_peer_at k
-            peer.now seconds nanos (λ p now. Ask (IsAcceptable p now))) [] [] self.old.node
-            self.new.node result }
+        ensures { let k = ⟦<C as Keys>⟧.scheme in Serves k (of_peer_at k peer.now seconds nanos (λ
+            p now. Ask (IsAcceptable p now))) [] [] self.old.node self.new.node result }
     {
         let Some(node) = &self.node else {
             return Refusal::NoNode.number();
@@ -175,9 +173,8 @@ impl<C: PublicKey> Session<C> {
     /// time, and the keys.
     #[inline(never)]
     pub fn dialable(&mut self, seconds: u64, nanos: u32, out: &mut [u8]) -> u64
-        ensures { let k = scheme C.PublicKey C.Signature.FixedBytes in Serves k (at_moment seconds
-            nanos (λ now. Ask (DialableAt now))) out.old out.new self.old.node self.new.node
-            result }
+        ensures { Serves ⟦<C as Keys>⟧.scheme (at_moment seconds nanos (λ now. Ask (DialableAt
+            now))) out.old out.new self.old.node self.new.node result }
     {
         self.serve(commands::dialable(seconds, nanos), out)
     }
@@ -186,8 +183,8 @@ impl<C: PublicKey> Session<C> {
     /// local node.
     #[inline(never)]
     pub fn tracked(&mut self) -> u64
-        ensures { let k = scheme C.PublicKey C.Signature.FixedBytes in Serves k (Ok (Ask
-            NumberTracked)) [] [] self.old.node self.new.node result }
+        ensures { Serves ⟦<C as Keys>⟧.scheme (Ok (Ask NumberTracked)) [] [] self.old.node
+            self.new.node result }
     {
         let Some(node) = &self.node else {
             return Refusal::NoNode.number();
@@ -198,8 +195,8 @@ impl<C: PublicKey> Session<C> {
     /// Asks the session's node by `Directory::retained`. Returns the number of retained sets.
     #[inline(never)]
     pub fn retained(&mut self) -> u64
-        ensures { let k = scheme C.PublicKey C.Signature.FixedBytes in (out : List ℕ) → Looks k
-            Retained out out self.old.node self.new.node result }
+        ensures { (out : List ℕ) → Looks ⟦<C as Keys>⟧.scheme Retained out out self.old.node
+            self.new.node result }
     {
         let Some(node) = &self.node else {
             return Refusal::NoNode.number();
@@ -210,8 +207,8 @@ impl<C: PublicKey> Session<C> {
     /// Asks the session's node by `Directory::next_cooled`: the time, or `None`.
     #[inline(never)]
     pub fn next_cooled(&mut self, out: &mut [u8]) -> u64
-        ensures { let k = scheme C.PublicKey C.Signature.FixedBytes in Looks k NextCooled out.old
-            out.new self.old.node self.new.node result }
+        ensures { Looks ⟦<C as Keys>⟧.scheme NextCooled out.old out.new self.old.node
+            self.new.node result }
     {
         let Some(node) = &self.node else {
             return Refusal::NoNode.number();
@@ -224,8 +221,8 @@ impl<C: PublicKey> Session<C> {
     /// allocates nothing.
     #[inline(never)]
     pub fn reservation(&mut self, peer: &[u8], out: &mut [u8]) -> u64
-        ensures { let k = scheme C.PublicKey C.Signature.FixedBytes in Looks k (Held peer.now)
-            out.old out.new self.old.node self.new.node result }
+        ensures { Looks ⟦<C as Keys>⟧.scheme (Held peer.now) out.old out.new self.old.node
+            self.new.node result }
     {
         let Some(node) = &self.node else {
             return Refusal::NoNode.number();

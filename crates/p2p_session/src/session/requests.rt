@@ -4,13 +4,13 @@
 //! would take the stack of the one that takes most.
 
 ghost use Rattle.std.specs.Prelude.{◌≡◌, ℕ, [], length};
-ghost use Rattle.p2p_session.specs.Schemes.{scheme};
 ghost use Rattle.p2p_session.specs.Given.{moment_at};
 ghost use Rattle.p2p_session.specs.Requests.{ServesCall, ServesRequest, request_of, bool_at};
 ghost use Rattle.p2p_session.specs.Requests.{of_nothing, of_bytes, of_number, of_moment};
 ghost use Rattle.p2p_session.specs.Requests.{of_bytes_at, of_frame};
 
 use crate::refusal::Refusal;
+use crate::scheme::Keys;
 use crate::session::Session;
 use p2p_discovery::codec::PublicKey;
 use std::alloc::Global;
@@ -70,8 +70,8 @@ impl<C: PublicKey> Session<C> {
         third: &[u8],
         out: &mut [u8],
     ) -> u64
-        ensures { ServesCall (scheme C.PublicKey C.Signature.FixedBytes) number numbers.now
-            first.now second.now third.now out.old out.new self.old self.new result }
+        ensures { ServesCall ⟦<C as Keys>⟧.scheme number numbers.now first.now second.now
+            third.now out.old out.new self.old self.new result }
     {
         if numbers.len() == SETUP_NUMBERS {
             return self.call_init(alloc, number, numbers, first, second, third);
@@ -106,8 +106,8 @@ impl<C: PublicKey> Session<C> {
     /// look at a table; any other as [`Session::call`] finds it.
     #[inline(always)]
     pub fn call_peer(&mut self, alloc: Global, number: u64, numbers: &[u64], peer: &[u8]) -> u64
-        ensures { ServesCall (scheme C.PublicKey C.Signature.FixedBytes) number numbers.now peer.now
-            [] [] [] [] self.old self.new result }
+        ensures { ServesCall ⟦<C as Keys>⟧.scheme number numbers.now peer.now [] [] [] [] self.old
+            self.new result }
     {
         match (number, numbers) {
             (3, []) if peer.is_empty() => self.track_room(),
@@ -137,16 +137,16 @@ impl<C: PublicKey> Session<C> {
     // Any call with bytes in its first place alone. It is out of line, where there is a copy of `call`.
     #[inline(never)]
     fn call_of_any(&mut self, alloc: Global, number: u64, numbers: &[u64], first: &[u8]) -> u64
-        ensures { ServesCall (scheme C.PublicKey C.Signature.FixedBytes) number numbers.now first.now
-            [] [] [] [] self.old self.new result }
+        ensures { ServesCall ⟦<C as Keys>⟧.scheme number numbers.now first.now [] [] [] []
+            self.old self.new result }
     {
         self.call(alloc, number, numbers, first, &[], &[], &mut [])
     }
 
     // The calls that take nothing.
     fn call_of_nothing(&mut self, number: u64, out: &mut [u8]) -> u64
-        ensures { let k = scheme C.PublicKey C.Signature.FixedBytes in
-            ServesRequest k (of_nothing k number) out.old out.new self.old self.new result }
+        ensures { let k = ⟦<C as Keys>⟧.scheme in ServesRequest k (of_nothing k number) out.old
+            out.new self.old self.new result }
     {
         match number {
             3 => self.track_room(),
@@ -163,8 +163,8 @@ impl<C: PublicKey> Session<C> {
 
     // The calls that take bytes, or nothing.
     fn call_of_bytes(&mut self, alloc: Global, number: u64, bytes: &[u8], out: &mut [u8]) -> u64
-        ensures { let k = scheme C.PublicKey C.Signature.FixedBytes in
-            ServesRequest k (of_bytes k number bytes.now) out.old out.new self.old self.new result }
+        ensures { let k = ⟦<C as Keys>⟧.scheme in ServesRequest k (of_bytes k number bytes.now)
+            out.old out.new self.old self.new result }
     {
         match number {
             6 => self.reservation(bytes, out),
@@ -187,9 +187,8 @@ impl<C: PublicKey> Session<C> {
         second: &[u8],
         out: &mut [u8],
     ) -> u64
-        ensures { let k = scheme C.PublicKey C.Signature.FixedBytes in
-            ServesRequest k (of_number k number n first.now second.now)
-            out.old out.new self.old self.new result }
+        ensures { let k = ⟦<C as Keys>⟧.scheme in ServesRequest k (of_number k number n first.now
+            second.now) out.old out.new self.old self.new result }
     {
         match number {
             2 => self.track(alloc, n, first, second, out),
@@ -206,9 +205,8 @@ impl<C: PublicKey> Session<C> {
 
     // The calls that take a moment.
     fn call_of_moment(&mut self, number: u64, time: (u64, u64), out: &mut [u8]) -> u64
-        ensures { let k = scheme C.PublicKey C.Signature.FixedBytes in
-            ServesRequest k (of_moment k number time.0 time.1)
-            out.old out.new self.old self.new result }
+        ensures { let k = ⟦<C as Keys>⟧.scheme in ServesRequest k (of_moment k number time.0
+            time.1) out.old out.new self.old self.new result }
     {
         let (seconds, nanos) = (time.0, nanos_of(time.1));
         match number {
@@ -229,9 +227,8 @@ impl<C: PublicKey> Session<C> {
         time: (u64, u64),
         out: &mut [u8],
     ) -> u64
-        ensures { let k = scheme C.PublicKey C.Signature.FixedBytes in
-            ServesRequest k (of_bytes_at k number bytes.now time.0 time.1)
-            out.old out.new self.old self.new result }
+        ensures { let k = ⟦<C as Keys>⟧.scheme in ServesRequest k (of_bytes_at k number bytes.now
+            time.0 time.1) out.old out.new self.old self.new result }
     {
         let (seconds, nanos) = (time.0, nanos_of(time.1));
         match number {
@@ -255,9 +252,8 @@ impl<C: PublicKey> Session<C> {
         time: (u64, u64),
         out: &mut [u8],
     ) -> u64
-        ensures { let k = scheme C.PublicKey C.Signature.FixedBytes in
-            ServesRequest k (of_frame k number first.now second.now time.0 time.1)
-            out.old out.new self.old self.new result }
+        ensures { let k = ⟦<C as Keys>⟧.scheme in ServesRequest k (of_frame k number first.now
+            second.now time.0 time.1) out.old out.new self.old self.new result }
     {
         match number {
             31 => self.receive(alloc, first, time.0, nanos_of(time.1), second, out),
@@ -270,9 +266,8 @@ impl<C: PublicKey> Session<C> {
     #[inline(never)]
     fn call_with_draw(&mut self, number: u64, peer: &[u8], numbers: &[u64]) -> u64
         requires { length numbers.now ≡ 4 }
-        ensures { let k = scheme C.PublicKey C.Signature.FixedBytes in
-            ServesRequest k (request_of k number numbers.now peer.now [] [])
-            [] [] self.old self.new result }
+        ensures { let k = ⟦<C as Keys>⟧.scheme in ServesRequest k (request_of k number numbers.now
+            peer.now [] []) [] [] self.old self.new result }
     {
         let [seconds, nanos, draw_seconds, draw_nanos] = numbers else {
             return Refusal::BadCall.number();
@@ -297,9 +292,8 @@ impl<C: PublicKey> Session<C> {
         myself: &[u8],
     ) -> u64
         requires { length numbers.now ≡ SETUP_NUMBERS }
-        ensures { let k = scheme C.PublicKey C.Signature.FixedBytes in
-            ServesRequest k (request_of k number numbers.now namespace.now bootstrappers.now
-            myself.now) [] [] self.old self.new result }
+        ensures { let k = ⟦<C as Keys>⟧.scheme in ServesRequest k (request_of k number numbers.now
+            namespace.now bootstrappers.now myself.now) [] [] self.old self.new result }
     {
         if number != 1 {
             return Refusal::BadCall.number();
