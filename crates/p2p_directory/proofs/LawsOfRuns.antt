@@ -10,7 +10,9 @@ pub mod BlockRuns
 pub mod DialRuns
 pub mod OrderRuns
 pub mod BoundRuns
+pub mod GrantCounts
 pub mod Laws
 pub mod Forgotten
 mod GrantExamples
 mod RunExamples
+mod ConnectionExamples

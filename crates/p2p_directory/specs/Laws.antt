@@ -8,6 +8,7 @@ pub mod BlockRuns
 pub mod DialRuns
 pub mod OrderRuns
 pub mod BoundRuns
+pub mod GrantCounts
 pub mod Run
 -- What is kept answers as a world does.
 pub mod Refined

@@ -43,9 +43,9 @@ pub(crate) mod slots;
 /// - `LatestUpdate` and `All` if some retained set has a peer;
 /// - `BlockedPeers` and `Dialable` if they list a peer.
 ///
-/// The replies keep the laws of cooldowns, blocks, dials and quiet time, isolation, order and
-/// bounds, which docs/PROOFS.md has under these headings. Times are durations since the epoch,
-/// exact to the nanosecond; the sum of a time and a duration is capped at `Duration::MAX`.
+/// The replies keep the laws of cooldowns, few grants, blocks, dials and quiet time, isolation,
+/// order and bounds, which docs/PROOFS.md has under these headings. Times are durations since the
+/// epoch, exact to the nanosecond; the sum of a time and a duration is capped at `Duration::MAX`.
 ///
 /// The result is consumed by [`Run::finish`].
 ///

@@ -150,7 +150,7 @@ module _ {C S : Type 0} (s : Settings C S) where
   -- MOMENTS THAT NEVER GO BACK
 
   -- a grant comes at the moment of its command
-  granted_then : (p : C) (now : ℕ) (c : Call C S) (r : Reply C S) → IfSome (granted_by s p c r) (λ grant. grant.0 ≡ moment_or s now c)
+  pub granted_then : (p : C) (now : ℕ) (c : Call C S) (r : Reply C S) → IfSome (granted_by s p c r) (λ grant. grant.0 ≡ moment_or s now c)
   granted_then p now (Dial q t draw) (reply.Dial true) =
       elim (History.same s q p) as
       (λ b. IfSome {T = ℕ × ℕ} (if b then Some (t, draw) else None) (λ grant. grant.0 ≡ t))

@@ -12,6 +12,7 @@ use Rattle.p2p_directory.proofs.LawsOfRuns.DialRuns.{keep_dialable}
 use Rattle.p2p_directory.proofs.LawsOfRuns.Isolation.{keep_alone}
 use Rattle.p2p_directory.proofs.LawsOfRuns.OrderRuns.{keep_order}
 use Rattle.p2p_directory.proofs.LawsOfRuns.BoundRuns.{keep_bound}
+use Rattle.p2p_directory.proofs.LawsOfRuns.GrantCounts.{keep_few}
 
 module _ {C S : Type 0} (s : Settings C S) (exact : History.IsExact s) (cs : List (Call C S))
     (rs : List (Reply C S)) (answers : AreAnswers s [] cs rs) where
@@ -19,6 +20,7 @@ module _ {C S : Type 0} (s : Settings C S) (exact : History.IsExact s) (cs : Lis
   laws_of_grants = record {
     spaced = λ p. keep_unless_forgotten s exact p cs rs answers;
     lasting = λ p. keep_cooldown s exact p cs rs answers;
+    few = λ p. keep_few s p cs rs (keep_cooldown s exact p cs rs answers);
     blocks = λ p. keep_blocks s p cs rs (keep_last_block s exact p cs rs answers);
     last_block = λ p. keep_last_block s exact p cs rs answers;
   }

@@ -9,6 +9,7 @@ use Rattle.p2p_directory.specs.Laws.DialRuns.{KeepDialable}
 use Rattle.p2p_directory.specs.Laws.Isolation.{KeepAlone}
 use Rattle.p2p_directory.specs.Laws.OrderRuns.{KeepOrder}
 use Rattle.p2p_directory.specs.Laws.BoundRuns.{KeepBound}
+use Rattle.p2p_directory.specs.Laws.GrantCounts.{KeepGrantsFew}
 
 module _ {C S : Type 0} (s : Settings C S) (calls : List (Call C S))
     (replies : List (Reply C S)) where
@@ -18,6 +19,8 @@ module _ {C S : Type 0} (s : Settings C S) (calls : List (Call C S))
     pub spaced : (p : C) → RunKeepsCooldownUnlessForgotten s p None calls replies
     -- .. or if moments never go back
     pub lasting : (p : C) → RunKeepsCooldown s p 0 None calls replies
+    -- .. so within any while they are few
+    pub few : (p : C) → KeepGrantsFew s p calls replies
     -- if moments never go back, a grant comes when each block that was taken before it is over
     pub blocks : (p : C) → RunKeepsBlocks s p 0 [] calls replies
     -- a grant and a further block come when the last block that no call ended is over
