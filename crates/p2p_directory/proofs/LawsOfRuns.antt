@@ -11,6 +11,7 @@ pub mod DialRuns
 pub mod OrderRuns
 pub mod BoundRuns
 pub mod GrantCounts
+pub mod Lingering
 pub mod Laws
 pub mod Forgotten
 mod GrantExamples

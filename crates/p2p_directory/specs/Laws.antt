@@ -9,6 +9,7 @@ pub mod DialRuns
 pub mod OrderRuns
 pub mod BoundRuns
 pub mod GrantCounts
+pub mod Lingering
 pub mod Run
 -- What is kept answers as a world does.
 pub mod Refined

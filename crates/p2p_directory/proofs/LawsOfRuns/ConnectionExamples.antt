@@ -1,14 +1,27 @@
--- Worked runs: replies that the law of few grants allows, and replies that it refuses.
-use Rattle.std.proofs.Common.{ℕ, true, List, [], ◌∷◌, Some, inr, refl, arith}
+-- Worked runs: replies that the laws of few grants and of connections that are entitled no more allow, and replies that
+-- they refuse.
+use Rattle.std.proofs.Common.{◌≡◌, ℕ, true, false, Bool, not, ◌&&◌, ◌||◌, List, [], ◌∷◌, Some, None, inr, refl, sym, subst, arith}
+use Rattle.std.specs.Prelude.{if◌then◌else◌}
 use Rattle.std.specs.List.Sorted.{IsStrictlySortedBy}
+use Rattle.std.specs.BTreeMap.{is_at}
 use Rattle.std.specs.Duration.{max_nanos}
-use Rattle.p2p_tracker.specs.Calls.{Call}
+use Rattle.std.specs.Ordering.{nat_cmp}
+use Rattle.std.specs.declared.cmp.Ordering.TheVariants.{Equal}
+use Rattle.std.proofs.lemmas.Bool.{and_from, not_from_false}
+use Rattle.std.proofs.lemmas.Cmp.{ranked}
+use Rattle.p2p_tracker.specs.Status.{is_inert}
+use Rattle.p2p_tracker.specs.Calls.{Call, Grant, SetAt}
 use Rattle.p2p_tracker.specs.Calls.Call.{Listen, Release}
-use Rattle.p2p_tracker.specs.History.{life}
+use Rattle.p2p_tracker.specs.Calls.Direction.{Listener}
+use Rattle.p2p_tracker.specs.Calls.Event.{Granted}
+use Rattle.p2p_tracker.specs.History.{life, found_with, status_since, is_entitled}
+use Rattle.p2p_tracker.specs.Answers.{is_torn_down}
 use Rattle.p2p_directory.specs.declared.run.commands.Reply.{Reply}
 use Rattle.p2p_directory.specs.declared.run.commands.Reply.TheVariants as reply
-use Rattle.p2p_directory.specs.Run.{AreAnswers}
+use Rattle.p2p_directory.specs.Run.{AreAnswers, world_after}
 use Rattle.p2p_directory.specs.Laws.GrantCounts.{KeepGrantsFew}
+use Rattle.p2p_directory.specs.Laws.Lingering.{is_lingering, KeepListed}
+use Rattle.p2p_directory.proofs.Definitions.Keys.{exact_from}
 use Rattle.p2p_directory.proofs.Definitions.Setting.{sec, setup, track, listen}
 
 -- FEW GRANTS: a cooldown of 10 s leaves three within 20 s, both ends included
@@ -38,3 +51,55 @@ two_at_the_end : AreAnswers setup []
     (reply.Track (Some []) ∷ reply.Listen true ∷ reply.Release ∷ reply.Listen true ∷ [])
 unfolding life IsStrictlySortedBy
 two_at_the_end = (inr (refl, record { sorted = tt; members = λ p. refl }), (inr refl, (inr refl, (inr refl, tt))))
+
+-- LINGERING: a set goes that alone names 1, which is reserved
+
+abbrev replaced : List (Call ℕ ℕ)
+replaced = track 0 (1 ∷ []) ∷ listen 1 100 ∷ track 1 (2 ∷ []) ∷ []
+
+abbrev replaced_replies : List ℕ → List (Reply ℕ ℕ)
+replaced_replies torn = reply.Track (Some []) ∷ reply.Listen true ∷ reply.Track (Some torn) ∷ []
+
+lingers : is_lingering setup (world_after setup (track 1 (2 ∷ []) ∷ listen 1 100 ∷ track 0 (1 ∷ []) ∷ [])) 1 ≡ true
+unfolding life
+lingers = refl
+
+-- only 1 is torn down
+abbrev one : Grant
+one = record { t = sec 100; draw = 0; direction = Listener }
+
+only_one : (p : ℕ) (is before after : Bool) → (is ≡ true → (before ≡ true) × (after ≡ false)) →
+    (is || false) ≡ (not (is_inert (status_since setup p (found_with (if is then Some one else None) (Granted 1 one) None))) && before && not after)
+only_one p true before after e = sym (and_from before (not after) (e refl).0 (not_from_false after (e refl).1))
+only_one p false before after e = refl
+
+abbrev named : ℕ → ℕ → List (SetAt ℕ)
+named index q = record { index = index; primary = q ∷ []; secondary = [] } ∷ []
+
+replaced_is_answer : AreAnswers setup [] replaced (replaced_replies (1 ∷ []))
+unfolding life IsStrictlySortedBy
+replaced_is_answer = (
+  inr (refl, record { sorted = tt; members = λ p. refl }),
+  (inr refl, (inr (refl, record { sorted = (tt, tt); members = torn }), tt)),
+)
+  where
+    torn : (p : ℕ) → (is_at (nat_cmp 1) p || false) ≡ is_torn_down setup (world_after setup (listen 1 100 ∷ track 0 (1 ∷ []) ∷ []))
+        (world_after setup (track 1 (2 ∷ []) ∷ listen 1 100 ∷ track 0 (1 ∷ []) ∷ [])) p
+    torn p = only_one p (is_at (nat_cmp 1) p) (is_entitled setup p (named 0 1)) (is_entitled setup p (named 1 2))
+        (λ same. subst (λ q. (is_entitled setup q (named 0 1) ≡ true) × (is_entitled setup q (named 1 2) ≡ false))
+        (exact_from setup nat_cmp refl (λ q p e. ranked q p Equal (sym e)) 1 p same) (refl, refl))
+
+unlisted_is_refused : KeepListed setup 1 false [] replaced (replaced_replies []) → ⊥
+unfolding life
+unlisted_is_refused kept = absurd (let listed = kept.1.1.1 refl in cc)
+
+listed_is_kept : KeepListed setup 1 false [] replaced (replaced_replies (1 ∷ []))
+unfolding life
+listed_is_kept = ((λ e. absurd cc), ((λ e. absurd cc), ((λ e. absurd cc), (λ e. refl))))
+
+-- what was listed before the last grant doesn't count
+listed_before_is_refused : KeepListed setup 1 false []
+    (track 0 (1 ∷ []) ∷ listen 1 100 ∷ track 1 (2 ∷ []) ∷ Release 1 ∷ track 2 (1 ∷ []) ∷ listen 1 200 ∷ track 3 (2 ∷ []) ∷ [])
+    (reply.Track (Some []) ∷ reply.Listen true ∷ reply.Track (Some (1 ∷ [])) ∷ reply.Release ∷ reply.Track (Some []) ∷ reply.Listen true ∷ reply.Track (Some []) ∷ []) → ⊥
+unfolding life
+listed_before_is_refused kept = absurd (let listed = kept.1.1.1.1.1.1.1 refl in cc)

@@ -1,5 +1,5 @@
 -- What the replies to a run say of each other: calls and replies are in order, the oldest first.
-use Rattle.std.specs.Prelude.{ℕ, List, [], None}
+use Rattle.std.specs.Prelude.{ℕ, List, [], None, false}
 use Rattle.p2p_tracker.specs.Calls.{Settings, Call}
 use Rattle.p2p_directory.specs.declared.run.commands.Reply.{Reply}
 use Rattle.p2p_directory.specs.Laws.GrantRuns.{RunKeepsCooldownUnlessForgotten, RunKeepsCooldown}
@@ -10,6 +10,7 @@ use Rattle.p2p_directory.specs.Laws.Isolation.{KeepAlone}
 use Rattle.p2p_directory.specs.Laws.OrderRuns.{KeepOrder}
 use Rattle.p2p_directory.specs.Laws.BoundRuns.{KeepBound}
 use Rattle.p2p_directory.specs.Laws.GrantCounts.{KeepGrantsFew}
+use Rattle.p2p_directory.specs.Laws.Lingering.{KeepListed}
 
 module _ {C S : Type 0} (s : Settings C S) (calls : List (Call C S))
     (replies : List (Reply C S)) where
@@ -37,3 +38,5 @@ module _ {C S : Type 0} (s : Settings C S) (calls : List (Call C S))
     pub order : KeepOrder s [] calls replies
     -- present keys are few, where each set names at most n
     pub bounds : (n : ℕ) → KeepBound s n [] calls replies
+    -- a connection that is entitled no more was listed by a track
+    pub lingering : (p : C) → KeepListed s p false [] calls replies
