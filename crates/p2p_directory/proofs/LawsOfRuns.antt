@@ -12,6 +12,7 @@ pub mod OrderRuns
 pub mod BoundRuns
 pub mod GrantCounts
 pub mod Lingering
+pub mod Repair
 pub mod Laws
 pub mod Forgotten
 mod GrantExamples

@@ -10,6 +10,7 @@ pub mod OrderRuns
 pub mod BoundRuns
 pub mod GrantCounts
 pub mod Lingering
+pub mod Repair
 pub mod Run
 -- What is kept answers as a world does.
 pub mod Refined

@@ -44,9 +44,9 @@ pub(crate) mod slots;
 /// - `BlockedPeers` and `Dialable` if they list a peer.
 ///
 /// The replies keep the laws of cooldowns, few grants, blocks, dials and quiet time, isolation,
-/// order, bounds, and connections to close, which docs/PROOFS.md has under these headings. Times
-/// are durations since the epoch, exact to the nanosecond; the sum of a time and a duration is
-/// capped at `Duration::MAX`.
+/// order, bounds, connections to close and repair, which docs/PROOFS.md has under these headings.
+/// Times are durations since the epoch, exact to the nanosecond; the sum of a time and a duration
+/// is capped at `Duration::MAX`.
 ///
 /// The result is consumed by [`Run::finish`].
 ///

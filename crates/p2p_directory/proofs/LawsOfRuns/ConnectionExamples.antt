@@ -1,5 +1,5 @@
--- Worked runs: replies that the laws of few grants and of connections that are entitled no more allow, and replies that
--- they refuse.
+-- Worked runs: replies that the laws of few grants, of connections that are entitled no more and of repair allow, and
+-- replies that they refuse.
 use Rattle.std.proofs.Common.{◌≡◌, ℕ, true, false, Bool, not, ◌&&◌, ◌||◌, List, [], ◌∷◌, Some, None, inr, refl, sym, subst, arith}
 use Rattle.std.specs.Prelude.{if◌then◌else◌}
 use Rattle.std.specs.List.Sorted.{IsStrictlySortedBy}
@@ -9,9 +9,12 @@ use Rattle.std.specs.Ordering.{nat_cmp}
 use Rattle.std.specs.declared.cmp.Ordering.TheVariants.{Equal}
 use Rattle.std.proofs.lemmas.Bool.{and_from, not_from_false}
 use Rattle.std.proofs.lemmas.Cmp.{ranked}
+use Rattle.p2p_discovery.specs.declared.discovery.BitVec.{BitVec}
+use Rattle.p2p_discovery.specs.Ingress.{is_valid}
 use Rattle.p2p_tracker.specs.Status.{is_inert}
 use Rattle.p2p_tracker.specs.Calls.{Call, Grant, SetAt}
-use Rattle.p2p_tracker.specs.Calls.Call.{Listen, Release}
+use Rattle.p2p_tracker.specs.Calls.Call.{Listen, Release, Ask}
+use Rattle.p2p_tracker.specs.Calls.Question.{BitsAt}
 use Rattle.p2p_tracker.specs.Calls.Direction.{Listener}
 use Rattle.p2p_tracker.specs.Calls.Event.{Granted}
 use Rattle.p2p_tracker.specs.History.{life, found_with, status_since, is_entitled}
@@ -21,8 +24,9 @@ use Rattle.p2p_directory.specs.declared.run.commands.Reply.TheVariants as reply
 use Rattle.p2p_directory.specs.Run.{AreAnswers, world_after}
 use Rattle.p2p_directory.specs.Laws.GrantCounts.{KeepGrantsFew}
 use Rattle.p2p_directory.specs.Laws.Lingering.{is_lingering, KeepListed}
+use Rattle.p2p_directory.specs.Laws.Repair.{IsDue, failures_after, KeepRepair}
 use Rattle.p2p_directory.proofs.Definitions.Keys.{exact_from}
-use Rattle.p2p_directory.proofs.Definitions.Setting.{sec, setup, track, listen}
+use Rattle.p2p_directory.proofs.Definitions.Setting.{sec, setup, track, listen, dial, update}
 
 -- FEW GRANTS: a cooldown of 10 s leaves three within 20 s, both ends included
 
@@ -100,6 +104,45 @@ listed_is_kept = ((λ e. absurd cc), ((λ e. absurd cc), ((λ e. absurd cc), (λ
 -- what was listed before the last grant doesn't count
 listed_before_is_refused : KeepListed setup 1 false []
     (track 0 (1 ∷ []) ∷ listen 1 100 ∷ track 1 (2 ∷ []) ∷ Release 1 ∷ track 2 (1 ∷ []) ∷ listen 1 200 ∷ track 3 (2 ∷ []) ∷ [])
-    (reply.Track (Some []) ∷ reply.Listen true ∷ reply.Track (Some (1 ∷ [])) ∷ reply.Release ∷ reply.Track (Some []) ∷ reply.Listen true ∷ reply.Track (Some []) ∷ []) → ⊥
+    (reply.Track (Some []) ∷ reply.Listen true ∷ reply.Track (Some (1 ∷ [])) ∷ reply.Release
+    ∷ reply.Track (Some []) ∷ reply.Listen true ∷ reply.Track (Some []) ∷ []) → ⊥
 unfolding life
 listed_before_is_refused kept = absurd (let listed = kept.1.1.1.1.1.1.1 refl in cc)
+
+-- REPAIR: one failed dial at the address of 1's info is enough
+
+abbrev before_release : List (Call ℕ ℕ)
+before_release = dial 1 100 ∷ update 1 1000 ∷ track 0 (1 ∷ []) ∷ []
+
+abbrev failed : List (Call ℕ ℕ)
+failed = track 0 (1 ∷ []) ∷ update 1 1000 ∷ dial 1 100 ∷ Release 1 ∷ Ask (BitsAt 0) ∷ []
+
+abbrev bits : Bool → BitVec
+bits b = record { index = 0; bits = b ∷ [] }
+
+abbrev failed_replies : Bool → List (Reply ℕ ℕ)
+failed_replies b =
+    reply.Track (Some []) ∷ reply.UpdatePeers ∷ reply.Dial true ∷ reply.Release ∷ reply.GetRandomBitVec (Some (bits b)) ∷ []
+
+asked_anew : AreAnswers setup [] failed (failed_replies false)
+unfolding life IsStrictlySortedBy is_valid
+asked_anew = (
+  inr (refl, record { sorted = tt; members = λ p. refl }),
+  (inr refl, (inr refl, (inr refl, (inr refl, tt)))),
+)
+
+due : IsDue setup 1 (failures_after setup 1 before_release (Release 1) reply.Release 0) (world_after setup (Release 1 ∷ before_release))
+unfolding life is_valid
+due = record { other = refl; failed = omega arith; idle = refl }
+
+not_asked_is_refused : KeepRepair setup 1 0 [] failed (failed_replies true) → ⊥
+unfolding life is_valid
+not_asked_is_refused kept =
+    let told = (kept.1.1.1.1.0 due).1 0 (record { index = 0; primary = 1 ∷ []; secondary = [] }) (bits true) refl refl refl in
+    absurd (let zero = told.0 refl in cc)
+
+-- a newer info starts the count anew, an older one doesn't
+counted_after : (failures_after setup 1 (Release 1 ∷ before_release) (update 1 1001) reply.UpdatePeers 1 ≡ 0)
+    × (failures_after setup 1 (Release 1 ∷ before_release) (update 1 999) reply.UpdatePeers 1 ≡ 1)
+unfolding life is_valid
+counted_after = (refl, refl)

@@ -14,6 +14,7 @@ use Rattle.p2p_directory.proofs.LawsOfRuns.OrderRuns.{keep_order}
 use Rattle.p2p_directory.proofs.LawsOfRuns.BoundRuns.{keep_bound}
 use Rattle.p2p_directory.proofs.LawsOfRuns.GrantCounts.{keep_few}
 use Rattle.p2p_directory.proofs.LawsOfRuns.Lingering.{keep_listed}
+use Rattle.p2p_directory.proofs.LawsOfRuns.Repair.{keep_repair}
 
 module _ {C S : Type 0} (s : Settings C S) (exact : History.IsExact s) (cs : List (Call C S))
     (rs : List (Reply C S)) (answers : AreAnswers s [] cs rs) where
@@ -34,4 +35,5 @@ module _ {C S : Type 0} (s : Settings C S) (exact : History.IsExact s) (cs : Lis
     order = keep_order s least cs rs answers;
     bounds = λ n. keep_bound s n total cs rs answers;
     lingering = λ p. keep_listed s exact p cs rs answers;
+    repair = λ p. keep_repair s exact p cs rs answers;
   }

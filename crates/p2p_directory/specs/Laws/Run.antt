@@ -11,6 +11,7 @@ use Rattle.p2p_directory.specs.Laws.OrderRuns.{KeepOrder}
 use Rattle.p2p_directory.specs.Laws.BoundRuns.{KeepBound}
 use Rattle.p2p_directory.specs.Laws.GrantCounts.{KeepGrantsFew}
 use Rattle.p2p_directory.specs.Laws.Lingering.{KeepListed}
+use Rattle.p2p_directory.specs.Laws.Repair.{KeepRepair}
 
 module _ {C S : Type 0} (s : Settings C S) (calls : List (Call C S))
     (replies : List (Reply C S)) where
@@ -40,3 +41,5 @@ module _ {C S : Type 0} (s : Settings C S) (calls : List (Call C S))
     pub bounds : (n : ℕ) → KeepBound s n [] calls replies
     -- a connection that is entitled no more was listed by a track
     pub lingering : (p : C) → KeepListed s p false [] calls replies
+    -- an info is asked for anew once dials at its address failed so often
+    pub repair : (p : C) → KeepRepair s p 0 [] calls replies
