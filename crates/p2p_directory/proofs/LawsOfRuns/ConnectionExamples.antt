@@ -1,6 +1,8 @@
--- Worked runs: replies that the laws of few grants, of connections that are entitled no more and of repair allow, and
+-- Worked runs: replies that the laws of few grants, of connections that are entitled no more and
+-- of repair allow, and
 -- replies that they refuse.
-use Rattle.std.proofs.Common.{◌≡◌, ℕ, true, false, Bool, not, ◌&&◌, ◌||◌, List, [], ◌∷◌, Some, None, inr, refl, sym, subst, arith}
+use Rattle.std.proofs.Common.{◌≡◌, ℕ, true, false, Bool, not, ◌&&◌, ◌||◌, List, [], ◌∷◌, Some, None}
+use Rattle.std.proofs.Common.{inr, refl, sym, subst, arith}
 use Rattle.std.specs.Prelude.{if◌then◌else◌}
 use Rattle.std.specs.List.Sorted.{IsStrictlySortedBy}
 use Rattle.std.specs.BTreeMap.{is_at}
@@ -34,7 +36,8 @@ abbrev spread : ℕ → ℕ → List (Call ℕ ℕ)
 spread t u = track 0 (1 ∷ []) ∷ listen 1 100 ∷ Release 1 ∷ listen 1 t ∷ Release 1 ∷ listen 1 u ∷ []
 
 abbrev spread_replies : List (Reply ℕ ℕ)
-spread_replies = reply.Track (Some []) ∷ reply.Listen true ∷ reply.Release ∷ reply.Listen true ∷ reply.Release ∷ reply.Listen true ∷ []
+spread_replies = reply.Track (Some []) ∷ reply.Listen true ∷ reply.Release ∷ reply.Listen true
+    ∷ reply.Release ∷ reply.Listen true ∷ []
 
 three_are_answers : AreAnswers setup [] (spread 110 120) spread_replies
 unfolding life IsStrictlySortedBy
@@ -47,14 +50,21 @@ three_are_answers = (
 three_are_too_many : KeepGrantsFew setup 1 (spread 105 119) spread_replies → ⊥
 three_are_too_many kept =
     let few = kept (sec 100) (sec 19) (omega arith) in
-    absurd (omega (arith, ((((((few (omega arith)).1 (omega arith)).1 (omega arith)).1 (omega arith)).1 (omega arith)).1 (omega arith)).0))
+    absurd (omega (
+      arith,
+      ((((((few (omega arith)).1 (omega arith)).1 (omega arith)).1 (omega arith)).1
+          (omega arith)).1 (omega arith)).0,
+    ))
 
 -- .. but at the greatest moment the cooldown is capped away
 two_at_the_end : AreAnswers setup []
     (track 0 (1 ∷ []) ∷ Listen 1 max_nanos 0 ∷ Release 1 ∷ Listen 1 max_nanos 0 ∷ [])
     (reply.Track (Some []) ∷ reply.Listen true ∷ reply.Release ∷ reply.Listen true ∷ [])
 unfolding life IsStrictlySortedBy
-two_at_the_end = (inr (refl, record { sorted = tt; members = λ p. refl }), (inr refl, (inr refl, (inr refl, tt))))
+two_at_the_end = (
+  inr (refl, record { sorted = tt; members = λ p. refl }),
+  (inr refl, (inr refl, (inr refl, tt))),
+)
 
 -- LINGERING: a set goes that alone names 1, which is reserved
 
@@ -64,7 +74,8 @@ replaced = track 0 (1 ∷ []) ∷ listen 1 100 ∷ track 1 (2 ∷ []) ∷ []
 abbrev replaced_replies : List ℕ → List (Reply ℕ ℕ)
 replaced_replies torn = reply.Track (Some []) ∷ reply.Listen true ∷ reply.Track (Some torn) ∷ []
 
-lingers : is_lingering setup (world_after setup (track 1 (2 ∷ []) ∷ listen 1 100 ∷ track 0 (1 ∷ []) ∷ [])) 1 ≡ true
+lingers : is_lingering setup
+    (world_after setup (track 1 (2 ∷ []) ∷ listen 1 100 ∷ track 0 (1 ∷ []) ∷ [])) 1 ≡ true
 unfolding life
 lingers = refl
 
@@ -73,8 +84,12 @@ abbrev one : Grant
 one = record { t = sec 100; draw = 0; direction = Listener }
 
 only_one : (p : ℕ) (is before after : Bool) → (is ≡ true → (before ≡ true) × (after ≡ false)) →
-    (is || false) ≡ (not (is_inert (status_since setup p (found_with (if is then Some one else None) (Granted 1 one) None))) && before && not after)
-only_one p true before after e = sym (and_from before (not after) (e refl).0 (not_from_false after (e refl).1))
+    (is || false) ≡ (not
+    (is_inert (status_since setup p
+    (found_with (if is then Some one else None) (Granted 1 one) None))) && before && not
+    after)
+only_one p true before after e =
+    sym (and_from before (not after) (e refl).0 (not_from_false after (e refl).1))
 only_one p false before after e = refl
 
 abbrev named : ℕ → ℕ → List (SetAt ℕ)
@@ -87,10 +102,14 @@ replaced_is_answer = (
   (inr refl, (inr (refl, record { sorted = (tt, tt); members = torn }), tt)),
 )
   where
-    torn : (p : ℕ) → (is_at (nat_cmp 1) p || false) ≡ is_torn_down setup (world_after setup (listen 1 100 ∷ track 0 (1 ∷ []) ∷ []))
+    torn : (p : ℕ) →
+        (is_at (nat_cmp 1) p || false) ≡
+        is_torn_down setup (world_after setup (listen 1 100 ∷ track 0 (1 ∷ []) ∷ []))
         (world_after setup (track 1 (2 ∷ []) ∷ listen 1 100 ∷ track 0 (1 ∷ []) ∷ [])) p
-    torn p = only_one p (is_at (nat_cmp 1) p) (is_entitled setup p (named 0 1)) (is_entitled setup p (named 1 2))
-        (λ same. subst (λ q. (is_entitled setup q (named 0 1) ≡ true) × (is_entitled setup q (named 1 2) ≡ false))
+    torn p = only_one p (is_at (nat_cmp 1) p) (is_entitled setup p (named 0 1))
+        (is_entitled setup p (named 1 2))
+        (λ same. subst (λ q. (is_entitled setup q (named 0 1) ≡ true)
+        × (is_entitled setup q (named 1 2) ≡ false))
         (exact_from setup nat_cmp refl (λ q p e. ranked q p Equal (sym e)) 1 p same) (refl, refl))
 
 unlisted_is_refused : KeepListed setup 1 false [] replaced (replaced_replies []) → ⊥
@@ -103,7 +122,8 @@ listed_is_kept = ((λ e. absurd cc), ((λ e. absurd cc), ((λ e. absurd cc), (λ
 
 -- what was listed before the last grant doesn't count
 listed_before_is_refused : KeepListed setup 1 false []
-    (track 0 (1 ∷ []) ∷ listen 1 100 ∷ track 1 (2 ∷ []) ∷ Release 1 ∷ track 2 (1 ∷ []) ∷ listen 1 200 ∷ track 3 (2 ∷ []) ∷ [])
+    (track 0 (1 ∷ []) ∷ listen 1 100 ∷ track 1 (2 ∷ []) ∷ Release 1 ∷ track 2 (1 ∷ [])
+    ∷ listen 1 200 ∷ track 3 (2 ∷ []) ∷ [])
     (reply.Track (Some []) ∷ reply.Listen true ∷ reply.Track (Some (1 ∷ [])) ∷ reply.Release
     ∷ reply.Track (Some []) ∷ reply.Listen true ∷ reply.Track (Some []) ∷ []) → ⊥
 unfolding life
@@ -122,7 +142,8 @@ bits b = record { index = 0; bits = b ∷ [] }
 
 abbrev failed_replies : Bool → List (Reply ℕ ℕ)
 failed_replies b =
-    reply.Track (Some []) ∷ reply.UpdatePeers ∷ reply.Dial true ∷ reply.Release ∷ reply.GetRandomBitVec (Some (bits b)) ∷ []
+    reply.Track (Some []) ∷ reply.UpdatePeers ∷ reply.Dial true ∷ reply.Release
+    ∷ reply.GetRandomBitVec (Some (bits b)) ∷ []
 
 asked_anew : AreAnswers setup [] failed (failed_replies false)
 unfolding life IsStrictlySortedBy is_valid
@@ -131,18 +152,21 @@ asked_anew = (
   (inr refl, (inr refl, (inr refl, (inr refl, tt)))),
 )
 
-due : IsDue setup 1 (failures_after setup 1 before_release (Release 1) reply.Release 0) (world_after setup (Release 1 ∷ before_release))
+due : IsDue setup 1 (failures_after setup 1 before_release (Release 1) reply.Release 0)
+    (world_after setup (Release 1 ∷ before_release))
 unfolding life is_valid
 due = record { other = refl; failed = omega arith; idle = refl }
 
 not_asked_is_refused : KeepRepair setup 1 0 [] failed (failed_replies true) → ⊥
 unfolding life is_valid
 not_asked_is_refused kept =
-    let told = (kept.1.1.1.1.0 due).1 0 (record { index = 0; primary = 1 ∷ []; secondary = [] }) (bits true) refl refl refl in
+    let told = (kept.1.1.1.1.0 due).1 0 (record { index = 0; primary = 1 ∷ []; secondary = [] })
+    (bits true) refl refl refl in
     absurd (let zero = told.0 refl in cc)
 
 -- a newer info starts the count anew, an older one doesn't
-counted_after : (failures_after setup 1 (Release 1 ∷ before_release) (update 1 1001) reply.UpdatePeers 1 ≡ 0)
+counted_after : (failures_after setup 1 (Release 1 ∷ before_release) (update 1 1001)
+    reply.UpdatePeers 1 ≡ 0)
     × (failures_after setup 1 (Release 1 ∷ before_release) (update 1 999) reply.UpdatePeers 1 ≡ 1)
 unfolding life is_valid
 counted_after = (refl, refl)
