@@ -164,6 +164,20 @@ not_asked_is_refused kept =
     (bits true) refl refl refl in
     absurd (let zero = told.0 refl in cc)
 
+-- .. also of a peer that went with its info, and comes back without one
+gone_and_back_is_refused : KeepRepair setup 1 0 []
+    (track 0 (1 ∷ []) ∷ update 1 1000 ∷ dial 1 100 ∷ Release 1 ∷ track 1 (2 ∷ []) ∷ track 2 (1 ∷ [])
+    ∷ Ask (BitsAt 0) ∷ [])
+    (reply.Track (Some []) ∷ reply.UpdatePeers ∷ reply.Dial true ∷ reply.Release
+    ∷ reply.Track (Some []) ∷ reply.Track (Some [])
+    ∷ reply.GetRandomBitVec (Some (record { index = 2; bits = true ∷ [] })) ∷ []) → ⊥
+unfolding life is_valid
+gone_and_back_is_refused kept =
+    let told = (kept.1.1.1.1.1.1.0 (record { other = refl; failed = omega arith; idle = refl })).1 0
+    (record { index = 2; primary = 1 ∷ []; secondary = [] }) (record { index = 2; bits = true ∷ [] })
+    refl refl refl in
+    absurd (let zero = told.0 refl in cc)
+
 -- a newer info starts the count anew, an older one doesn't
 counted_after : (failures_after setup 1 (Release 1 ∷ before_release) (update 1 1001)
     reply.UpdatePeers 1 ≡ 0)
