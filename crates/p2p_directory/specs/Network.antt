@@ -33,7 +33,8 @@ use Rattle.p2p_directory.specs.Exchange as exchange
 use Rattle.p2p_tracker.specs.Seen.{DirectoryView}
 use Rattle.p2p_directory.specs.Held.{ReleasesAll}
 use Rattle.p2p_directory.specs.Nodes.{NodeView, Made, NodeStandsAt, made_of, standing_in}
-use Rattle.p2p_directory.specs.Nodes.{calls_with, IsStepped, IsReceived, IsAsked}
+use Rattle.p2p_directory.specs.Nodes.{calls_with, IsStepped, IsReceived, IsAsked, IsSame}
+use Rattle.p2p_directory.specs.Nodes.{named_peer, KeepsRoom}
 
 -- what was done to the nodes: commands with their replies, the newest first
 abbrev pub Done : Type 0 → Type 0 → Type 0
@@ -250,6 +251,22 @@ may_change (reply.Frame r) = applies r
 may_change (reply.Exchange r) = is_some (infos_applied r)
 may_change reply.OutOfMemory = false
 may_change reply.NoNode = false
+
+-- the nodes are as they were, but for slots
+pub record AreSame {C S : Type 0} (vs vs2 : List (NodeView C S)) : Type 0 where
+  pub count : length vs2 ≡ length vs
+  pub each : (k : ℕ) (v : NodeView C S) → IsSame (slice_index_or vs k v) (slice_index_or vs2 k v)
+
+-- the peer of node k that a command names, if it names one
+abbrev pub named_at : {C S : Type 0} → NetworkCommand C S → ℕ → Option C
+named_at (command.Call i x) k = if i == k then named_peer x else None
+named_at c k = None
+
+-- each node keeps a slot where something is held of the peer that is named, or else where it had one
+abbrev pub KeepRoom : {C S : Type 0} → (C → C → Ordering) → NetworkCommand C S →
+    List (NodeView C S) → List (NodeView C S) → Type 0
+KeepRoom {C} {S} cmp c vs vs2 = (k : ℕ) (v : NodeView C S) → k < length vs →
+    KeepsRoom cmp (named_at c k) (slice_index_or vs k v) (slice_index_or vs2 k v)
 
 -- A NEW NODE of a setup: vs before it, vs2 after it
 

@@ -1,10 +1,11 @@
 -- Nodes: what contracts see of one, what it is made from, and how it stands at the point after the
 -- calls that its directory accepted.
-use Rattle.std.specs.Prelude.{ℕ, ◌≡◌, ◌<◌, ◌^◌, ◌∷◌, Bool, true, ◌⊎◌, List, Option, Some}
+use Rattle.std.specs.Prelude.{ℕ, ◌≡◌, ◌<◌, ◌^◌, ◌∷◌, Bool, true, false, ◌⊎◌, List, Option, Some}
 use Rattle.std.specs.Prelude.{None, Result, Ok, []}
-use Rattle.std.specs.Prelude.{IfOk, IfSome, OnErr, is_some, slice_get, length, ◌≤◌}
+use Rattle.std.specs.Prelude.{IfOk, IfSome, OnErr, is_some, slice_get, length, ◌≤◌, if◌then◌else◌}
+use Rattle.std.specs.BTreeMap.{is_at}
 use Rattle.std.specs.Duration.{as_nanos}
-use Rattle.std.specs.List.{AllByRecursion}
+use Rattle.std.specs.List.{AllByRecursion, list_any}
 use Rattle.std.specs.declared.cmp.Ordering.{Ordering}
 use Rattle.p2p_discovery.specs.declared.discovery.Info.{Info}
 use Rattle.p2p_discovery.specs.declared.discovery.Payload.{Payload}
@@ -16,9 +17,10 @@ use Rattle.p2p_tracker.specs.declared.directory.Metadata.{Metadata}
 use Rattle.p2p_directory.specs.declared.node.received.Received.{Received}
 use Rattle.p2p_directory.specs.declared.node.setup.Setup.{Setup}
 use Rattle.p2p_directory.specs.declared.run.commands.Command.{Command}
+use Rattle.p2p_directory.specs.declared.run.commands.Command.TheVariants as command
 use Rattle.p2p_directory.specs.declared.run.commands.Reply.{Reply}
 use Rattle.p2p_directory.specs.declared.run.commands.Reply.TheVariants as reply
-use Rattle.p2p_tracker.specs.Calls.{Settings, Call, may_reserve}
+use Rattle.p2p_tracker.specs.Calls.{Settings, Call, may_reserve, reserved_by}
 use Rattle.p2p_tracker.specs.Calls.Call.{Update}
 use Rattle.p2p_tracker.specs.World.{World}
 use Rattle.p2p_tracker.specs.Answers.{infos_for, set_at_place}
@@ -35,10 +37,12 @@ use Rattle.p2p_directory.specs.Received.{ask_frame_at, applied_with, told_with}
 
 -- WHAT IS SEEN
 
--- a node's directory, what is held of its grants, its limits, and what its verifier holds
+-- a node's directory, what is held of its grants, the peers of whom there is a slot, in which their
+-- reservation is or may be put, its limits, and what its verifier holds
 pub record NodeView (C S : Type 0) : Type 0 where
   pub directory : DirectoryView C S
   pub held : List (Metadata C S)
+  pub slots : List C
   pub limits : PayloadConfig
   pub verifier : Verifier C
 
@@ -177,6 +181,32 @@ module _ {C S : Type 0} (cmp : C → C → Ordering) where
   abbrev pub IsAsked : Wire C S → ℕ → {E : Type 0} → Result (Option (List ℕ)) E → NodeView C S →
       Type 0
   IsAsked wire place r v = AtEach v (λ m calls. IsAskedAt m wire calls place r)
+
+-- a node is as it was, but for slots
+abbrev pub IsSame : {C S : Type 0} → NodeView C S → NodeView C S → Type 0
+IsSame v v2 = v2 ≡ record v { slots = v2.slots }
+
+-- the peer that a command names: of whom it may be granted a reservation, or may release it
+abbrev pub named_peer : {C S : Type 0} → Command C S → Option C
+named_peer (command.Release p) = Some p
+named_peer x = reserved_by (call_of x)
+
+-- q is the peer that is named, if one is
+abbrev pub is_named : {C : Type 0} → (C → C → Ordering) → Option C → C → Bool
+is_named cmp None q = false
+is_named cmp (Some p) q = is_at (cmp p) q
+
+module _ {C S : Type 0} (cmp : C → C → Ordering) where
+  -- there is a slot of q
+  abbrev pub has_slot : NodeView C S → C → Bool
+  has_slot v q = list_any (is_at (cmp q)) v.slots
+
+  -- a call that names a peer, or none, leaves a slot for that peer exactly where something is held
+  -- of it, and for each other peer where there was one
+  abbrev pub KeepsRoom : Option C → NodeView C S → NodeView C S → Type 0
+  KeepsRoom named v v2 = (q : C) → has_slot v2 q ≡ (if is_named cmp named q
+      then is_some (held_of cmp v2.held q)
+      else has_slot v q)
 
 -- a node stands somewhere: there are a setup that it was made from, and calls that it accepted
 pub record StandsSomewhere {C S : Type 0} (cmp : C → C → Ordering) (v : NodeView C S) : Type 0 where

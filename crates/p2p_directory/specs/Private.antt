@@ -2,6 +2,5 @@
 pub mod Slots
 pub mod Serving
 pub mod Frames
-pub mod Endpoints
 pub mod Exchanging
 pub mod Networks

@@ -1,14 +1,15 @@
 //! A node: a directory that receives frames, verifies their infos and replies to them.
 
-ghost use Rattle.std.specs.Prelude.{◌≡◌, ◌-◌, ◌<◌, ◌^◌, [], false, IfOk, option_map};
+ghost use Rattle.std.specs.Prelude.{◌≡◌, ◌-◌, ◌<◌, ◌^◌, [], false, true, IfOk, OnOk, option_map};
 ghost use Rattle.std.specs.Int.NonZero.{non_zero_usize_get};
 ghost use Rattle.p2p_directory.specs.Held.{held_of, AreHeld, ReleasesAll};
 ghost use Rattle.p2p_directory.specs.Run.{was_made};
 ghost use Rattle.p2p_discovery.specs.Info.{IsInfo, IsKeyed};
 ghost use Rattle.p2p_directory.specs.Nodes.{NodeStandsAt, made_of, IsStepped, StandsSomewhere};
+ghost use Rattle.p2p_directory.specs.Nodes.{IsSame, KeepsRoom, has_slot, named_peer};
+ghost use Rattle.p2p_directory.specs.Private.Networks.{has_room, IsNodeServed};
 
 pub use crate::node::decoded::Decoded;
-use crate::node::endpoint::Endpoint;
 pub use crate::node::exchanged::{Exchanged, exchange};
 pub use crate::node::network::{Network, NetworkCommand, NetworkReply, NetworkRun, run_network};
 pub use crate::node::pair::{PairCommand, PairReply, PairRun, Side, run_pair};
@@ -23,10 +24,11 @@ use p2p_tracker::directory::{Directory, Metadata};
 use std::alloc::{AllocError, Global};
 use std::marker::Model;
 
+mod answers;
 mod calls;
 mod decoded;
-mod endpoint;
 mod exchanged;
+mod exchanges;
 mod frames;
 mod network;
 mod pair;
@@ -35,19 +37,27 @@ mod received;
 mod setup;
 
 /// A directory with its open reservations, the verifier of infos, and the limits under which frames
-/// are read. A contract sees these four. It must be consumed by [`Node::finish`] or
-/// [`Node::parts`].
+/// are read. A contract sees these four, and for which peers there is a slot: room for a
+/// reservation, with one in it or not. It must be consumed by [`Node::finish`] or [`Node::parts`].
 pub struct Node<C: PublicKey> {
-    endpoint: Endpoint<C>,
+    server: Server<C>,
+    verifier: InfoVerifier<C>,
+    payload: PayloadConfig,
 }
 
 impl<C: PublicKey> Model for Node<C> {
-    ghost use Rattle.p2p_directory.specs.Nodes.{NodeView};
-    ghost use Rattle.p2p_directory.specs.Private.Endpoints.{node_of};
+    ghost use Rattle.std.specs.Prelude.{◌<◌, ◌^◌};
+    ghost use Rattle.p2p_directory.specs.Nodes.{NodeView, StandsSomewhere};
+    ghost use Rattle.p2p_directory.specs.Private.Slots.{AreSlots};
+    ghost use Rattle.p2p_directory.specs.Private.Serving.{node_at};
 
     ghost Value = { NodeView C C.Signature };
 
-    ghost view = { λ n. node_of n.endpoint };
+    ghost view = { λ n. node_at n.payload n.verifier n.server };
+
+    ghost invariant = { λ n. (n.payload.max_bit_vec < 2 ^ 32)
+        × AreSlots C.cmp n.server.slots
+        × StandsSomewhere C.cmp (node_at n.payload n.verifier n.server) };
 }
 
 impl<C: PublicKey> Node<C> {
@@ -70,6 +80,7 @@ impl<C: PublicKey> Node<C> {
         requires sets { non_zero_usize_get setup.cfg.max_sets < 2 ^ 64 - 1 }
         requires bits { setup.payload.max_bit_vec < 2 ^ 32 }
         ensures stands { IfOk result (NodeStandsAt (made_of C.cmp setup) []) }
+        ensures room { IfOk result (λ node. node.slots ≡ []) }
         ensures own { IfOk result (λ _.
             IsInfo setup.myself × IsKeyed C.IsValue C.Signature.IsValue setup.myself) }
     {
@@ -89,7 +100,9 @@ impl<C: PublicKey> Node<C> {
         let server = Server::new(directory, Slots::new(alloc));
         let verifier = Info::<C>::verifier(me, peer_gossip_max_count, synchrony_bound, namespace);
         Ok(Node {
-            endpoint: Endpoint::new(server, verifier, payload),
+            server,
+            verifier,
+            payload,
         })
     }
 
@@ -99,7 +112,7 @@ impl<C: PublicKey> Node<C> {
     pub fn stands(&self)
         ensures { StandsSomewhere C.cmp self.now }
     {
-        self.endpoint.stands();
+        let _limits = &self.payload;
     }
 
     /// Serves one command of the node, as [`run`](crate::run::run) does: a granted reservation is
@@ -107,7 +120,7 @@ impl<C: PublicKey> Node<C> {
     /// nothing.
     ///
     /// Space for a reservation is allocated before a `Dial` or a `Listen`, so the reply to both may
-    /// be `OutOfMemory` if that fails.
+    /// be `OutOfMemory` if that fails. It is kept only as long as a reservation is held.
     ///
     /// # Examples
     ///
@@ -119,32 +132,33 @@ impl<C: PublicKey> Node<C> {
     /// reservations.
     pub fn step(&mut self, command: Command<C>) -> Reply<C>
         ensures stepped { IsStepped C.cmp command result self.old self.new }
-        ensures unchanged { was_made result ≡ false → self.new ≡ self.old }
+        ensures unchanged { was_made result ≡ false → IsSame self.old self.new }
+        ensures room { KeepsRoom C.cmp (named_peer command) self.old self.new }
         ensures limits { self.new.limits ≡ self.old.limits }
         ensures verifier { self.new.verifier ≡ self.old.verifier }
     {
-        self.endpoint.step(command)
+        self.server.step(command)
     }
 
     /// The directory of the node.
     pub fn directory(&self) -> &Directory<C>
         ensures { result.now ≡ self.now.directory }
     {
-        self.endpoint.server.directory()
+        self.server.directory()
     }
 
     /// The node's verifier of infos.
     pub fn verifier(&self) -> &InfoVerifier<C>
         ensures { result.now ≡ self.now.verifier }
     {
-        &self.endpoint.verifier
+        &self.verifier
     }
 
     /// The limits under which the node reads frames.
     pub fn limits(&self) -> PayloadConfig
         ensures { result ≡ self.now.limits }
     {
-        self.endpoint.payload
+        self.payload
     }
 
     /// Whom the reservation of the peer that the node holds is for, and who dials, or `None` if it
@@ -156,7 +170,7 @@ impl<C: PublicKey> Node<C> {
     pub fn held(&self, peer: &C) -> Option<&Metadata<C>>
         ensures { option_map (λ m. m.now) result ≡ held_of C.cmp self.now.held peer.now }
     {
-        self.endpoint.server.held(peer)
+        self.server.held(peer)
     }
 
     /// The parts of the node: its directory, and the reservations that it granted and that were not
@@ -172,8 +186,12 @@ impl<C: PublicKey> Node<C> {
         ensures held { (q : C) → held_of C.cmp result.1 q ≡ held_of C.cmp self.held q }
         ensures agree { AreHeld C.cmp result.0 (held_of C.cmp result.1) }
     {
-        let Node { endpoint } = self;
-        endpoint.into_parts()
+        let Node {
+            server,
+            verifier: _,
+            payload: _,
+        } = self;
+        server.into_parts()
     }
 
     /// Releases all reservations of the node, and returns its directory. It doesn't allocate.
@@ -184,7 +202,31 @@ impl<C: PublicKey> Node<C> {
     pub fn finish(self) -> Directory<C>
         ensures { ReleasesAll C.cmp self.held self.directory result }
     {
-        let Node { endpoint } = self;
-        endpoint.finish()
+        let (mut directory, held) = self.parts();
+        held.release_all(&mut directory);
+        directory
+    }
+}
+
+impl<C: PublicKey> Node<C> {
+    // Makes a slot at the node for the reservation that the command may be granted, if there is
+    // none.
+    fn make_room(&mut self, command: &Command<C>) -> Result<(), AllocError>
+        ensures same { IsSame self.old self.new }
+        ensures room { OnOk result (has_room C.cmp self.new command.now ≡ true) }
+        ensures slots { OnOk result ((q : C) →
+            has_slot C.cmp self.old q ≡ true → has_slot C.cmp self.new q ≡ true) }
+    {
+        self.server.make_room(command)
+    }
+
+    // Serves one command at the node, if there is a slot for the reservation that it may be
+    // granted. The slot stays.
+    fn serve(&mut self, command: Command<C>) -> Reply<C>
+        requires room { has_room C.cmp self.old command ≡ true }
+        ensures served { IsNodeServed C.cmp command result self.old self.new }
+        ensures slots { (q : C) → has_slot C.cmp self.new q ≡ has_slot C.cmp self.old q }
+    {
+        self.server.serve(command)
     }
 }

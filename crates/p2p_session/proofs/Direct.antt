@@ -2,7 +2,7 @@
 use Rattle.std.proofs.Common.{◌≡◌, ℕ, List, false, true, [], ◌∷◌, length, arith, Ok, Some, inr, refl, sym, ◌∙◌, subst}
 use Rattle.p2p_tracker.specs.Calls.{Call}
 use Rattle.p2p_directory.specs.Run.{was_made}
-use Rattle.p2p_directory.specs.Nodes.{AtEach, IsSteppedAt, NodeView}
+use Rattle.p2p_directory.specs.Nodes.{AtEach, IsSame, IsSteppedAt, NodeView}
 use Rattle.p2p_directory.specs.declared.run.commands.Reply.{Reply}
 use Rattle.p2p_session.specs.Answers.{Tells}
 use Rattle.p2p_session.specs.Sessions.{TellsReply, answer_to, Serves}
@@ -12,13 +12,13 @@ use Rattle.p2p_session.specs.Schemes.{Scheme}
 module _ {C S : Type 0} (k : Scheme C S) where
   -- a call that may change the node
   pub made : (call : Call C S) (r : Reply C S) (v v2 : NodeView C S) (n : ℕ) →
-      AtEach k.key.cmp v (λ m calls. IsSteppedAt m calls call r v2) → (was_made r ≡ false → v2 ≡ v) →
+      AtEach k.key.cmp v (λ m calls. IsSteppedAt m calls call r v2) → (was_made r ≡ false → IsSame v v2) →
       TellsReply k r [] [] n → Serves k (Ok call) [] [] (Some v) (Some v2) n
   made call r v v2 n stepped unchanged told = (r, record { stepped = stepped; unchanged = unchanged; told = told })
 
   -- .. into a room of no bytes
   pub called : (call : Call C S) (r : Reply C S) (v v2 : NodeView C S) (out : List ℕ) (n : ℕ) →
-      AtEach k.key.cmp v (λ m calls. IsSteppedAt m calls call r v2) → (was_made r ≡ false → v2 ≡ v) →
+      AtEach k.key.cmp v (λ m calls. IsSteppedAt m calls call r v2) → (was_made r ≡ false → IsSame v v2) →
       length out ≡ 0 → TellsReply k r [] out n → Serves k (Ok call) [] [] (Some v) (Some v2) n
   called call r v v2 [] n stepped unchanged none told = made call r v v2 n stepped unchanged told
   called call r v v2 (b ∷ out) n stepped unchanged none told = absurd (omega (arith, none))

@@ -10,7 +10,7 @@ use Rattle.p2p_tracker.specs.Calls.Question.{InfosFor}
 use Rattle.p2p_tracker.specs.Directory.{other_keys, dial_moment_in}
 use Rattle.p2p_tracker.specs.Lists.{IsLeastOf}
 use Rattle.p2p_directory.specs.Run.{was_made}
-use Rattle.p2p_directory.specs.Nodes.{AtEach, IsSteppedAt, standing_of, NodeView, NodeStandsAt}
+use Rattle.p2p_directory.specs.Nodes.{IsSame, AtEach, IsSteppedAt, standing_of, NodeView, NodeStandsAt}
 use Rattle.p2p_directory.specs.Nodes.{made_of}
 use Rattle.p2p_directory.specs.declared.node.setup.Setup.{Setup}
 use Rattle.p2p_session.specs.declared.setup.Numbers.{Numbers}
@@ -115,7 +115,7 @@ module _ {C S : Type 0} (k : Scheme C S) where
   pub record Steps (call : Call C S) (r : Reply C S) (v v2 : NodeView C S)
       (out out2 : List ℕ) (n : ℕ) : Type 0 where
     pub stepped : AtEach k.key.cmp v (λ m calls. IsSteppedAt m calls call r v2)
-    pub unchanged : was_made r ≡ false → v2 ≡ v
+    pub unchanged : was_made r ≡ false → IsSame v v2
     pub told : TellsReply r out out2 n
 
   -- the call that was asked for is made, or why it can't be read is answered

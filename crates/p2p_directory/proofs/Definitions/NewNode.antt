@@ -44,7 +44,7 @@ abbrev new_directory : DirectoryView ℕ ℕ
 new_directory = with_records ((9, own_record) ∷ [])
 
 abbrev node_with : DirectoryView ℕ ℕ → NodeView ℕ ℕ
-node_with d = record { directory = d; held = []; limits = asker.limits; verifier = asker.verifier }
+node_with d = record { directory = d; held = []; slots = []; limits = asker.limits; verifier = asker.verifier }
 
 abbrev IsRecorded : ℕ → Type 0
 IsRecorded p = record_of nat_cmp new_directory p

@@ -1,8 +1,7 @@
 -- Runs of a network: its nodes at the start, after one more reply, and in the end.
-use Rattle.std.proofs.Common.{◌≡◌, ◌<◌, ℕ, zero, suc, List, [], ◌∷◌, ◌++◌, length, refl, sym, ◌∙◌, subst, arith}
+use Rattle.std.proofs.Common.{◌≡◌, ◌<◌, ℕ, zero, suc, List, [], ◌∷◌, ◌++◌, length, refl, sym, subst, arith}
 use Rattle.std.specs.Prelude.{slice_index_or}
 use Rattle.std.specs.declared.cmp.Ordering.{Ordering}
-use Rattle.std.proofs.lemmas.List.{get_or-map, length-map}
 use Rattle.p2p_directory.specs.declared.node.setup.Setup.{Setup}
 use Rattle.p2p_directory.specs.declared.node.network.commands.NetworkCommand.{NetworkCommand}
 use Rattle.p2p_directory.specs.declared.node.network.commands.NetworkReply.{NetworkReply}
@@ -13,8 +12,7 @@ use Rattle.p2p_directory.specs.Nodes.{Made, NodeView, NodeStandsAt, made_of}
 use Rattle.p2p_directory.specs.Network.{Done, IsNetworkAnswer, AreNetworkAnswers, done_after}
 use Rattle.p2p_directory.specs.Network.{StandAfter, node_made, AreReleased}
 use Rattle.p2p_directory.specs.Laws.Network.{OfEachReply}
-use Rattle.p2p_directory.specs.Private.Endpoints.{EndpointView, node_of}
-use Rattle.p2p_directory.specs.Private.Networks.{nodes_of, IsAnsweredAt}
+use Rattle.p2p_directory.specs.Private.Networks.{IsAnsweredAt}
 
 -- TWO LISTS, whose elements belong together
 
@@ -47,47 +45,33 @@ module _ {C S : Type 0} (cmp : C → C → Ordering) where
   -- THE START
 
   -- an endpoint is a new node of a setup
-  abbrev pub IsNew : Setup C S → EndpointView C S → Type 0
-  IsNew given e = NodeStandsAt (made_of cmp given) [] (node_of e)
+  abbrev pub IsNew : Setup C S → NodeView C S → Type 0
+  IsNew given e = NodeStandsAt (made_of cmp given) [] e
 
-  pub stand_at_start : (wire : Wire C S) (setups : List (Setup C S)) (es : List (EndpointView C S))
+  pub stand_at_start : (wire : Wire C S) (setups : List (Setup C S)) (es : List (NodeView C S))
       (other : Setup C S) → length es ≡ length setups → OfBoth IsNew setups es →
-      StandAfter wire (length setups) (node_made cmp other setups) [] (nodes_of es)
+      StandAfter wire (length setups) (node_made cmp other setups) [] es
   stand_at_start wire setups es other same all = record {
-    count = length-map es node_of ∙ same;
+    count = same;
     each = λ i v lt. each i v lt es same all;
   }
     where
-      each : (i : ℕ) (v : NodeView C S) → i < length setups → (es : List (EndpointView C S)) →
+      each : (i : ℕ) (v : NodeView C S) → i < length setups → (es : List (NodeView C S)) →
           length es ≡ length setups → OfBoth IsNew setups es →
           NodeStandsAt (made_of cmp (slice_index_or setups i other)) []
-          (slice_index_or (nodes_of es) i v)
+          (slice_index_or es i v)
       each i v lt [] same all = absurd (omega (arith, lt, same))
-      each i v lt (e ∷ es) same all =
-          subst (NodeStandsAt (made_of cmp (slice_index_or setups i other)) [])
-          (sym (get_or-map node_of (e ∷ es) i e v
-          (subst (λ n. i < n) (sym same) lt))) (all i other e lt)
+      each i v lt (e ∷ es) same all = all i other v lt
 
   -- THE END
 
   -- all that is held was released
-  abbrev pub IsReleased : EndpointView C S → DirectoryView C S → Type 0
-  IsReleased e d = ReleasesAll cmp (node_of e).held (node_of e).directory d
+  abbrev pub IsReleased : NodeView C S → DirectoryView C S → Type 0
+  IsReleased e d = ReleasesAll cmp e.held e.directory d
 
-  pub are_released : (es : List (EndpointView C S)) (ds : List (DirectoryView C S)) →
-      length ds ≡ length es → OfBoth IsReleased es ds → AreReleased cmp (nodes_of es) ds
-  are_released es ds same all = record {
-    count = same ∙ sym (length-map es node_of);
-    each = λ i v d lt. each es all i v d (subst (λ n. i < n) (length-map es node_of) lt);
-  }
-    where
-      each : (es : List (EndpointView C S)) → OfBoth IsReleased es ds → (i : ℕ) (v : NodeView C S)
-          (d : DirectoryView C S) → i < length es → let node = slice_index_or (nodes_of es) i v in
-          ReleasesAll cmp node.held node.directory (slice_index_or ds i d)
-      each [] all i v d lt = absurd (omega (arith, lt))
-      each (e ∷ es) all i v d lt = subst
-          (λ (n : NodeView C S). ReleasesAll cmp n.held n.directory (slice_index_or ds i d))
-          (sym (get_or-map node_of (e ∷ es) i e v lt)) (all i e d lt)
+  pub are_released : (es : List (NodeView C S)) (ds : List (DirectoryView C S)) →
+      length ds ≡ length es → OfBoth IsReleased es ds → AreReleased cmp es ds
+  are_released es ds same all = record { count = same; each = λ i v d lt. all i v d lt }
 
 -- ONE MORE REPLY
 

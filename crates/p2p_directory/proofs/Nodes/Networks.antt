@@ -1,15 +1,15 @@
 -- Any number of nodes: what one of them answers is what is replied to a command, and where all then
 -- stand.
-use Rattle.std.proofs.Common.{◌≡◌, ◌<◌, ◌≤◌, ◌^◌, ℕ, length, Bool, true, false, List, ◌∷◌, Option, inl, inr, ◌++◌, ◌-◌}
+use Rattle.std.proofs.Common.{◌≡◌, ◌<◌, ◌≤◌, ◌^◌, ℕ, length, Bool, true, false, List, ◌∷◌, Option, Some, None, inl, inr, ◌++◌, ◌-◌}
 use Rattle.std.proofs.Common.{Result, Ok, Err, refl, sym, ◌∙◌, ap, subst, arith}
 use Rattle.std.specs.Prelude.{if◌then◌else◌, IfOk, IfSome, ◌==◌, not, ◌&&◌, slice_index_or}
 use Rattle.std.specs.Prelude.{slice_set, nat_lt, OnOk, ◌⊎◌}
 use Rattle.std.specs.Duration.{as_nanos}
+use Rattle.std.specs.Option.{option_map_or}
 use Rattle.std.specs.declared.cmp.Ordering.{Ordering}
 use Rattle.std.specs.declared.time.Duration.{Duration}
-use Rattle.std.proofs.Math.Seq.{map-set_same}
 use Rattle.std.proofs.lemmas.Bool.{eqb-true, eqb-false, lt-ltb, le-ltb}
-use Rattle.std.proofs.lemmas.List.{get_or-map, get_or-set_same, get_or-set_other, length-map}
+use Rattle.std.proofs.lemmas.List.{get_or-set_same, get_or-set_other}
 use Rattle.std.proofs.lemmas.List.{length-set, get_or_default, get_or_append_left}
 use Rattle.std.proofs.lemmas.List.{get_or-append_right, set-append_left, set-append_right}
 use Rattle.p2p_directory.specs.declared.node.received.Received.{Received}
@@ -25,42 +25,36 @@ use Rattle.p2p_directory.specs.Run.{call_of}
 use Rattle.p2p_directory.specs.Received as frames
 use Rattle.p2p_directory.specs.Received.{Wire}
 use Rattle.p2p_directory.specs.Nodes.{Made, NodeView, NodeStandsAt, IsReceivedAt, IsAskedAt, IsSteppedAt, IsStepAnswer}
+use Rattle.p2p_directory.specs.Nodes.{IsSame, KeepsRoom, has_slot, named_peer}
 use Rattle.p2p_directory.specs.Network.{Done, changed_by, calls_then, is_node, calls_at, are_there}
-use Rattle.p2p_directory.specs.Network.{standing_at, StandAfter, IsNetworkAnswer}
+use Rattle.p2p_directory.specs.Network.{standing_at, StandAfter, IsNetworkAnswer, AreSame, KeepRoom}
 use Rattle.p2p_directory.specs.Network as network
 use Rattle.p2p_directory.specs.Laws.Network.{IsWritten}
 use Rattle.p2p_directory.specs.Exchange.{Carries, Exchanges, IsExchangedAt}
-use Rattle.p2p_directory.specs.Private.Endpoints.{EndpointView, node_of, IsEndpointServedAt}
-use Rattle.p2p_directory.specs.Private.Networks.{nodes_of, reply_to_ask, HasRoomFor, GrowSlots}
-use Rattle.p2p_directory.specs.Private.Networks.{KeepSlots, IsAnsweredAt, ExchangesAmong}
-use Rattle.p2p_directory.specs.Private.Serving.{has_slot_for}
-use Rattle.p2p_directory.specs.Private.Slots.{has_slot}
+use Rattle.p2p_directory.specs.Private.Networks.{reply_to_ask, has_room, HasRoomFor, GrowSlots}
+use Rattle.p2p_directory.specs.Private.Networks.{KeepSlots, IsAnsweredAt, IsNodeServedAt, ExchangesAmong}
+use Rattle.p2p_directory.specs.Private.Serving.{reserved_peer}
 use Rattle.p2p_directory.proofs.Nodes.Among.{not_two}
 use Rattle.p2p_directory.proofs.Nodes.Frames.{calls_after_frame}
-use Rattle.p2p_directory.proofs.Reservations.Replies.{room_grows}
+use Rattle.p2p_directory.proofs.Nodes.Standing.{stands_same}
 
 module _ {C S : Type 0} (wire : Wire C S) (size : ℕ) (node : ℕ → Made C S) (done : Done C S)
-    (es : List (EndpointView C S)) (at : StandAfter wire size node done (nodes_of es)) where
-  count : length es ≡ size
-  count = sym (length-map es node_of) ∙ at.count
-
+    (es : List (NodeView C S)) (at : StandAfter wire size node done es) where
   pub is_there : (i : ℕ) → i < length es → is_node wire size node i ≡ true
-  is_there i lt = lt-ltb i size (subst (λ n. i < n) count lt)
+  is_there i lt = lt-ltb i size (subst (λ n. i < n) at.count lt)
 
   pub is_absent : (i : ℕ) → length es ≤ i → is_node wire size node i ≡ false
-  is_absent i le = le-ltb i size (subst (λ n. n ≤ i) count le)
+  is_absent i le = le-ltb i size (subst (λ n. n ≤ i) at.count le)
 
   -- one of the endpoints
-  pub stands_at : (i : ℕ) (e : EndpointView C S) → i < length es →
-      NodeStandsAt (node i) (calls_at wire size node done i) (node_of (slice_index_or es i e))
-  stands_at i e lt = subst (NodeStandsAt (node i) (calls_at wire size node done i))
-      (get_or-map node_of es i e (node_of e) lt)
-      (at.each i (node_of e) (subst (λ n. i < n) count lt))
+  pub stands_at : (i : ℕ) (e : NodeView C S) → i < length es →
+      NodeStandsAt (node i) (calls_at wire size node done i) (slice_index_or es i e)
+  stands_at i e lt = at.each i e (subst (λ n. i < n) at.count lt)
 
-  pub stands_there : (i : ℕ) (e : EndpointView C S) → i < length es → e ≡ slice_index_or es i e →
-      NodeStandsAt (node i) (calls_at wire size node done i) (node_of e)
+  pub stands_there : (i : ℕ) (e : NodeView C S) → i < length es → e ≡ slice_index_or es i e →
+      NodeStandsAt (node i) (calls_at wire size node done i) e
   stands_there i e lt is = subst
-      (λ x. NodeStandsAt (node i) (calls_at wire size node done i) (node_of x)) (sym is)
+      (λ x. NodeStandsAt (node i) (calls_at wire size node done i) x) (sym is)
       (stands_at i e lt)
 
   -- ALL OF THEM, after one more command
@@ -83,40 +77,34 @@ module _ {C S : Type 0} (wire : Wire C S) (size : ℕ) (node : ℕ → Made C S)
   same_more : (c : NetworkCommand C S) (r : NetworkReply C S) →
       ((i : ℕ) → calls_then wire (node i) c r (calls_at wire size node done i)
       ≡ calls_at wire size node done i) →
-      StandAfter wire size node ((c, r) ∷ done) (nodes_of es)
+      StandAfter wire size node ((c, r) ∷ done) es
   same_more c r same = record {
     count = at.count;
-    each = λ i v lt. calls_more c r i (slice_index_or (nodes_of es) i v)
-        (λ e. subst (λ calls. NodeStandsAt (node i) calls (slice_index_or (nodes_of es) i v))
+    each = λ i v lt. calls_more c r i (slice_index_or es i v)
+        (λ e. subst (λ calls. NodeStandsAt (node i) calls (slice_index_or es i v))
         (sym (same i)) (at.each i v lt))
         (λ e. at.each i v lt);
   }
 
   -- one changed
-  pub set_more : (c : NetworkCommand C S) (r : NetworkReply C S) (e2 : EndpointView C S) →
+  pub set_more : (c : NetworkCommand C S) (r : NetworkReply C S) (e2 : NodeView C S) →
       changed_by c < length es → NodeStandsAt (node (changed_by c))
       (calls_then wire (node (changed_by c)) c r (calls_at wire size node done (changed_by c)))
-      (node_of e2) →
-      StandAfter wire size node ((c, r) ∷ done) (nodes_of (slice_set es (changed_by c) e2))
+      e2 →
+      StandAfter wire size node ((c, r) ∷ done) (slice_set es (changed_by c) e2)
   set_more c r e2 lt one = record {
-    count = length-map (slice_set es (changed_by c) e2) node_of ∙ length-set es (changed_by c) e2
-        ∙ count;
-    each = λ i v in_size. let inside = subst (λ n. i < n) (sym count) in_size in
-        calls_more c r i (slice_index_or (nodes_of (slice_set es (changed_by c) e2)) i v)
+    count = length-set es (changed_by c) e2 ∙ at.count;
+    each = λ i v in_size. let inside = subst (λ n. i < n) (sym at.count) in_size in
+        calls_more c r i (slice_index_or (slice_set es (changed_by c) e2) i v)
         (λ e. let same = eqb-true (changed_by c) i e in
         subst (NodeStandsAt (node i) (calls_then wire (node i) c r (calls_at wire size node done i)))
-        (sym (get_or-map node_of (slice_set es (changed_by c) e2) i e2 v
-        (subst (λ n. i < n) (sym (length-set es (changed_by c) e2)) inside)
-        ∙ ap (λ j. node_of (slice_index_or (slice_set es (changed_by c) e2) j e2)) (sym same)
-        ∙ ap node_of (get_or-set_same es (changed_by c) e2 e2 lt)))
+        (sym (ap (λ j. slice_index_or (slice_set es (changed_by c) e2) j v) (sym same)
+        ∙ get_or-set_same es (changed_by c) e2 v lt))
         (subst (λ j. NodeStandsAt (node j) (calls_then wire (node j) c r
-        (calls_at wire size node done j)) (node_of e2)) same one))
+        (calls_at wire size node done j)) e2) same one))
         (λ e. subst (NodeStandsAt (node i) (calls_at wire size node done i))
-        (get_or-map node_of es i e2 v inside
-        ∙ sym (get_or-map node_of (slice_set es (changed_by c) e2) i e2 v
-        (subst (λ n. i < n) (sym (length-set es (changed_by c) e2)) inside)
-        ∙ ap node_of (get_or-set_other es (changed_by c) i e2 e2
-        (λ f. eqb-false (changed_by c) i e (sym f)))))
+        (sym (get_or-set_other es (changed_by c) i e2 v
+        (λ f. eqb-false (changed_by c) i e (sym f))))
         (at.each i v in_size));
   }
 
@@ -124,7 +112,7 @@ module _ {C S : Type 0} (wire : Wire C S) (size : ℕ) (node : ℕ → Made C S)
 
   -- there is no such node
   pub none_more : (c : NetworkCommand C S) → are_there size c ≡ false →
-      IsAnsweredAt wire size node done c reply.NoNode (nodes_of es)
+      IsAnsweredAt wire size node done c reply.NoNode es
   none_more c none = record {
     answer = none;
     stand = same_more c reply.NoNode (λ i. same c (node i) (calls_at wire size node done i));
@@ -135,21 +123,21 @@ module _ {C S : Type 0} (wire : Wire C S) (size : ℕ) (node : ℕ → Made C S)
       same (command.Call i x) m calls = refl
       same _ m calls = refl
 
-  pub call_more : (i : ℕ) (x : Command C S) (r : Reply C S) (e2 : EndpointView C S) →
-      i < length es → IsEndpointServedAt (node i) (calls_at wire size node done i) (call_of x) r
-      (node_of e2) →
+  pub call_more : (i : ℕ) (x : Command C S) (r : Reply C S) (e2 : NodeView C S) →
+      i < length es → IsNodeServedAt (node i) (calls_at wire size node done i) (call_of x) r
+      e2 →
       IsAnsweredAt wire size node done (command.Call i x) (reply.Call r)
-      (nodes_of (slice_set es i e2))
+      (slice_set es i e2)
   call_more i x r e2 lt h = record {
     answer = (is_there i lt, h.answer);
     stand = set_more (command.Call i x) (reply.Call r) e2 lt h.left;
   }
 
-  pub step_more : (i : ℕ) (x : Command C S) (r : Reply C S) (e2 : EndpointView C S) →
+  pub step_more : (i : ℕ) (x : Command C S) (r : Reply C S) (e2 : NodeView C S) →
       i < length es → IsSteppedAt (node i) (calls_at wire size node done i) (call_of x) r
-      (node_of e2) →
+      e2 →
       network.IsNetworkServedAt wire size node done (command.Call i x) (reply.Call r)
-      (nodes_of (slice_set es i e2))
+      (slice_set es i e2)
   step_more i x r e2 lt h = record {
     answer = go h.answer;
     stand = set_more (command.Call i x) (reply.Call r) e2 lt h.left;
@@ -170,7 +158,7 @@ module _ {C S : Type 0} (wire : Wire C S) (size : ℕ) (node : ℕ → Made C S)
 
   pub ask_more : {E : Type 0} (i place : ℕ) (r : Result (Option (List ℕ)) E) → i < length es →
       IsAskedAt (node i) wire (calls_at wire size node done i) place r →
-      IsAnsweredAt wire size node done (command.Ask i place) (reply_to_ask r) (nodes_of es)
+      IsAnsweredAt wire size node done (command.Ask i place) (reply_to_ask r) es
   ask_more i place (Ok frame) lt h = record {
     answer = (is_there i lt, h.frame);
     stand = same_more (command.Ask i place) (reply.Ask frame) (λ k. refl);
@@ -181,11 +169,11 @@ module _ {C S : Type 0} (wire : Wire C S) (size : ℕ) (node : ℕ → Made C S)
   }
 
   pub frame_more : (i : ℕ) (frame : List ℕ) (now : Duration) (r : Received C S)
-      (e2 : EndpointView C S) → i < length es →
+      (e2 : NodeView C S) → i < length es →
       IsReceivedAt (node i) wire (calls_at wire size node done i) frame (as_nanos now) r
-      (node_of e2) →
+      e2 →
       IsAnsweredAt wire size node done (command.Frame i frame now) (reply.Frame r)
-      (nodes_of (slice_set es i e2))
+      (slice_set es i e2)
   frame_more i frame now r e2 lt h =
       let calls = calls_at wire size node done i in
       let at_i = standing_at wire size node done i in
@@ -194,7 +182,7 @@ module _ {C S : Type 0} (wire : Wire C S) (size : ℕ) (node : ℕ → Made C S)
       record {
         answer = (is_there i lt, h.answer);
         stand = set_more (command.Frame i frame now) (reply.Frame r) e2 lt
-            (subst (λ cs. NodeStandsAt (node i) cs (node_of e2)) same h.left);
+            (subst (λ cs. NodeStandsAt (node i) cs e2) same h.left);
       }
 
   pub are_served : (asker replier : ℕ) → asker < length es → replier < length es →
@@ -216,15 +204,15 @@ module _ {C S : Type 0} (wire : Wire C S) (size : ℕ) (node : ℕ → Made C S)
       (is_node wire size node asker
       && (is_node wire size node replier && not (asker == replier))) ≡ false
   not_served asker replier none = subst (λ n. (nat_lt asker n && (nat_lt replier n
-      && not (asker == replier))) ≡ false) count (not_two (length es) asker replier none)
+      && not (asker == replier))) ≡ false) at.count (not_two (length es) asker replier none)
 
   pub exchange_more : (asker replier place : ℕ) (now now2 : Duration) (r : Exchanged C S)
-      (e2 : EndpointView C S) → asker < length es → replier < length es →
+      (e2 : NodeView C S) → asker < length es → replier < length es →
       (asker ≡ replier → ⊥) →
       IsExchangedAt (node asker) (node replier) wire (calls_at wire size node done asker)
-      (calls_at wire size node done replier) place (as_nanos now) (as_nanos now2) r (node_of e2) →
+      (calls_at wire size node done replier) place (as_nanos now) (as_nanos now2) r e2 →
       IsAnsweredAt wire size node done (command.Exchange asker replier place now now2)
-      (reply.Exchange r) (nodes_of (slice_set es asker e2))
+      (reply.Exchange r) (slice_set es asker e2)
   exchange_more asker replier place now now2 r e2 asks replies apart h = record {
     answer = (are_served asker replier asks replies apart, h.answer);
     stand = set_more (command.Exchange asker replier place now now2) (reply.Exchange r) e2 asks
@@ -249,17 +237,12 @@ ask_written wire size node IsKey IsSignature done i place (Err e) h = tt
 
 -- SLOTS
 
-module _ {C S : Type 0} (cmp : C → C → Ordering) (es : List (EndpointView C S)) (i : ℕ)
-    (e2 d : EndpointView C S) (lt : i < length es) where
-  -- an endpoint that is the same node
-  pub same_nodes : node_of e2 ≡ node_of (slice_index_or es i d) →
-      nodes_of (slice_set es i e2) ≡ nodes_of es
-  same_nodes same = map-set_same node_of es i e2 d same
-
-  -- what holds of an endpoint and the one in its place holds of each and itself
-  at_each : (R : EndpointView C S → EndpointView C S → Type 0) →
-      ((x : EndpointView C S) → R x x) → R (slice_index_or es i d) e2 →
-      (k : ℕ) (e : EndpointView C S) →
+module _ {C S : Type 0} (cmp : C → C → Ordering) (es : List (NodeView C S)) (i : ℕ)
+    (e2 d : NodeView C S) (lt : i < length es) where
+  -- what holds of a node and the one in its place holds of each and itself
+  at_each : (R : NodeView C S → NodeView C S → Type 0) →
+      ((x : NodeView C S) → R x x) → R (slice_index_or es i d) e2 →
+      (k : ℕ) (e : NodeView C S) →
       R (slice_index_or es k e) (slice_index_or (slice_set es i e2) k e)
   at_each R itself one k e = go (i == k) refl
     where
@@ -275,47 +258,98 @@ module _ {C S : Type 0} (cmp : C → C → Ordering) (es : List (EndpointView C 
           (sym (get_or-set_other es i k e2 e (λ g. eqb-false i k f (sym g))))
           (itself (slice_index_or es k e))
 
-  pub grow_slots : ((q : C) → has_slot cmp (slice_index_or es i d).slots q ≡ true →
-      has_slot cmp e2.slots q ≡ true) → GrowSlots cmp es (slice_set es i e2)
-  grow_slots more k e q inside = at_each
-      (λ x y. (q : C) → has_slot cmp x.slots q ≡ true → has_slot cmp y.slots q ≡ true)
-      (λ x q h. h) more k e q
+  pub same_set : IsSame (slice_index_or es i d) e2 → AreSame es (slice_set es i e2)
+  same_set same = record {
+    count = length-set es i e2;
+    each = at_each (λ x y. IsSame x y) (λ x. refl) same;
+  }
 
-  pub keep_slots :
-      ((q : C) → has_slot cmp e2.slots q ≡ has_slot cmp (slice_index_or es i d).slots q) →
-      KeepSlots cmp es (slice_set es i e2)
-  keep_slots same k e q inside = at_each
-      (λ x y. (q : C) → has_slot cmp y.slots q ≡ has_slot cmp x.slots q)
-      (λ x q. refl) same k e q
+  pub grow_slots : ((q : C) → has_slot cmp (slice_index_or es i d) q ≡ true → has_slot cmp e2 q ≡ true) →
+      GrowSlots cmp es (slice_set es i e2)
+  grow_slots more k e q inside = at_each
+      (λ x y. (q : C) → has_slot cmp x q ≡ true → has_slot cmp y q ≡ true) (λ x q h. h) more k e q
+
+  pub same_slots : ((q : C) → has_slot cmp e2 q ≡ has_slot cmp (slice_index_or es i d) q) →
+      (k : ℕ) (e : NodeView C S) (q : C) →
+      has_slot cmp (slice_index_or (slice_set es i e2) k e) q ≡ has_slot cmp (slice_index_or es k e) q
+  same_slots = at_each (λ x y. (q : C) → has_slot cmp y q ≡ has_slot cmp x q) (λ x q. refl)
+
+  -- a slot is left where something is held of the peer that is named, or else where there was one
+  pub keep_room : (x : Command C S) → KeepsRoom cmp (named_peer x) (slice_index_or es i d) e2 →
+      KeepRoom cmp (command.Call i x) es (slice_set es i e2)
+  keep_room x one k e inside = go (i == k) refl
+    where
+      go : (b : Bool) → (i == k) ≡ b → KeepsRoom cmp (if b then named_peer x else None)
+          (slice_index_or es k e) (slice_index_or (slice_set es i e2) k e)
+      go true f = subst (λ j. KeepsRoom cmp (named_peer x)
+          (slice_index_or es j e) (slice_index_or (slice_set es i e2) j e))
+          (eqb-true i k f)
+          (subst (λ x2. KeepsRoom cmp (named_peer x) x2 (slice_index_or (slice_set es i e2) i e))
+          (get_or_default es i d e lt)
+          (subst (KeepsRoom cmp (named_peer x) (slice_index_or es i d))
+          (sym (get_or-set_same es i e2 e lt)) one))
+      go false f = λ q. ap (λ (v : NodeView C S). has_slot cmp v q)
+          (get_or-set_other es i k e2 e (λ g. eqb-false i k f (sym g)))
+
+-- .. also if there is no such node
+pub keep_room_of_none : {C S : Type 0} (cmp : C → C → Ordering) (es : List (NodeView C S)) (i : ℕ)
+    (x : Command C S) → length es ≤ i → KeepRoom cmp (command.Call i x) es es
+keep_room_of_none {C} {S} cmp es i x none k v inside = go (i == k) refl
+  where
+    go : (b : Bool) → (i == k) ≡ b → KeepsRoom cmp (if b then named_peer x else None)
+        (slice_index_or es k v) (slice_index_or es k v)
+    go true f = let same = eqb-true i k f in absurd (omega (arith, same, none, inside))
+    go false f = λ q. refl
 
 -- there is room for a command once there is room where it is for
-pub room_in_place : {C S : Type 0} (cmp : C → C → Ordering) (es : List (EndpointView C S)) (i : ℕ)
-    (e2 : EndpointView C S) (x : Command C S) → i < length es → has_slot_for cmp e2.slots x ≡ true →
+pub room_in_place : {C S : Type 0} (cmp : C → C → Ordering) (es : List (NodeView C S)) (i : ℕ)
+    (e2 : NodeView C S) (x : Command C S) → i < length es → has_room cmp e2 x ≡ true →
     HasRoomFor cmp (slice_set es i e2) (command.Call i x)
-room_in_place {C} {S} cmp es i e2 x lt h e inside = subst (λ (y : EndpointView C S).
-    has_slot_for cmp y.slots x ≡ true) (sym (get_or-set_same es i e2 e lt)) h
+room_in_place {C} {S} cmp es i e2 x lt h e inside = subst (λ (y : NodeView C S).
+    has_room cmp y x ≡ true) (sym (get_or-set_same es i e2 e lt)) h
 
 -- there is room for a command where there are more slots
-pub room_for_grows : {C S : Type 0} (cmp : C → C → Ordering) (es es2 : List (EndpointView C S))
-    (x : NetworkCommand C S) → length es2 ≡ length es → GrowSlots cmp es es2 →
-    HasRoomFor cmp es x → HasRoomFor cmp es2 x
-room_for_grows cmp es es2 (command.Call i x) same more h = λ e lt.
+pub room_for_grows : {C S : Type 0} (cmp : C → C → Ordering) (es es2 : List (NodeView C S))
+    (x : NetworkCommand C S) → length es2 ≡ length es → GrowSlots cmp es es2 → HasRoomFor cmp es x →
+    HasRoomFor cmp es2 x
+room_for_grows {C} {S} cmp es es2 (command.Call i x) same more h = λ e lt.
     let inside = subst (λ n. i < n) same lt in
-    room_grows cmp (slice_index_or es i e).slots (slice_index_or es2 i e).slots x
+    grown (slice_index_or es i e) (slice_index_or es2 i e) (reserved_peer x)
     (λ q. more i e q inside) (h e inside)
-room_for_grows cmp es es2 _ same more h = tt
+  where
+    grown : (v v2 : NodeView C S) (o : Option C) →
+        ((q : C) → has_slot cmp v q ≡ true → has_slot cmp v2 q ≡ true) →
+        option_map_or (has_slot cmp v) o true ≡ true → option_map_or (has_slot cmp v2) o true ≡ true
+    grown v v2 None more h = refl
+    grown v v2 (Some q) more h = more q h
+room_for_grows cmp es es2 (command.Ask i place) same more h = tt
+room_for_grows cmp es es2 (command.Frame i frame now) same more h = tt
+room_for_grows cmp es es2 (command.Exchange asker replier place now now2) same more h = tt
 
 -- .. or just the same
-pub room_for_stays : {C S : Type 0} (cmp : C → C → Ordering) (es es2 : List (EndpointView C S))
-    (x : NetworkCommand C S) → length es2 ≡ length es → KeepSlots cmp es es2 →
-    HasRoomFor cmp es x → HasRoomFor cmp es2 x
+pub room_for_stays : {C S : Type 0} (cmp : C → C → Ordering) (es es2 : List (NodeView C S))
+    (x : NetworkCommand C S) → length es2 ≡ length es → KeepSlots cmp es es2 → HasRoomFor cmp es x →
+    HasRoomFor cmp es2 x
 room_for_stays cmp es es2 x same kept h =
     room_for_grows cmp es es2 x same (λ i e q lt is. kept i e q lt ∙ is) h
 
--- the same nodes are so many
-pub same_count : {C S : Type 0} (es es2 : List (EndpointView C S)) → nodes_of es2 ≡ nodes_of es →
-    length es2 ≡ length es
-same_count es es2 same = sym (length-map es2 node_of) ∙ ap length same ∙ length-map es node_of
+-- nodes that are the same but for slots are so one after the other, and stand where they stood
+pub same_again : {C S : Type 0} (vs vs2 vs3 : List (NodeView C S)) → AreSame vs vs2 →
+    AreSame vs2 vs3 → AreSame vs vs3
+same_again {C} {S} vs vs2 vs3 one two = record {
+  count = two.count ∙ one.count;
+  each = λ k v. two.each k v ∙ ap (λ (x : NodeView C S). record x { slots = (slice_index_or vs3 k v).slots })
+      (one.each k v);
+}
+
+pub same_stand : {C S : Type 0} (wire : Wire C S) (size : ℕ) (node : ℕ → Made C S) (done : Done C S)
+    {vs vs2 : List (NodeView C S)} → AreSame vs vs2 → StandAfter wire size node done vs →
+    StandAfter wire size node done vs2
+same_stand wire size node done same at = record {
+  count = same.count ∙ at.count;
+  each = λ i v lt. stands_same (node i) (calls_at wire size node done i) _ _ (same.each i v)
+      (at.each i v lt);
+}
 
 -- where it went well
 pub on_ok : {A E P Q : Type 0} (r : Result A E) → OnOk r P → (P → Q) → OnOk r Q
@@ -325,25 +359,25 @@ on_ok (Err e) h f = tt
 -- AN EXCHANGE of two among all
 
 pub exchanged_among : {C S : Type 0} (cmp : C → C → Ordering) (wire : Wire C S)
-    (asker replier place s t : ℕ) (r : Exchanged C S) (es es2 : List (EndpointView C S))
-    (a b left : EndpointView C S) → es2 ≡ slice_set es asker left →
-    ((e : EndpointView C S) → a ≡ slice_index_or es asker e) →
-    ((e : EndpointView C S) → b ≡ slice_index_or es replier e) →
-    Exchanges cmp wire place s t r (node_of a) (node_of b) (node_of left) →
-    Carries cmp wire place s t r (node_of a) (node_of b) (node_of left) → left.slots ≡ a.slots →
+    (asker replier place s t : ℕ) (r : Exchanged C S) (es es2 : List (NodeView C S))
+    (a b left : NodeView C S) → es2 ≡ slice_set es asker left →
+    ((e : NodeView C S) → a ≡ slice_index_or es asker e) →
+    ((e : NodeView C S) → b ≡ slice_index_or es replier e) →
+    Exchanges cmp wire place s t r a b left →
+    Carries cmp wire place s t r a b left → left.slots ≡ a.slots →
     ExchangesAmong cmp wire asker replier place s t r es es2
 exchanged_among {C} {S} cmp wire asker replier place s t r es es2 a b left rest of_a of_b seen
     carried same =
     record {
       left = left;
       rest = rest;
-      seen = λ e. subst (λ (x : EndpointView C S × EndpointView C S).
-          Exchanges cmp wire place s t r (node_of x.0) (node_of x.1) (node_of left))
+      seen = λ e. subst (λ (x : NodeView C S × NodeView C S).
+          Exchanges cmp wire place s t r x.0 x.1 left)
           (λ i. (of_a e i, of_b e i)) seen;
-      carried = λ e. subst (λ (x : EndpointView C S × EndpointView C S).
-          Carries cmp wire place s t r (node_of x.0) (node_of x.1) (node_of left))
+      carried = λ e. subst (λ (x : NodeView C S × NodeView C S).
+          Carries cmp wire place s t r x.0 x.1 left)
           (λ i. (of_a e i, of_b e i)) carried;
-      slots = λ e. same ∙ ap (λ (x : EndpointView C S). x.slots) (of_a e);
+      slots = λ e. same ∙ ap (λ (x : NodeView C S). x.slots) (of_a e);
     }
 
 -- TWO PARTS of a list, of which one is changed

@@ -1,5 +1,10 @@
 -- A node stands where its server does.
-use Rattle.std.proofs.Common.{◌≡◌, List, Option, is_some, inl, refl, sym, ◌∙◌, ap, subst}
+use Rattle.std.proofs.Common.{◌≡◌, ◌||◌, Bool, true, false, List, [], ◌∷◌, Option, Some, None, is_some, inl, refl, sym, ◌∙◌, ap, subst, cond}
+use Rattle.std.specs.Map.{keys_of}
+use Rattle.std.specs.Option.{option_map_or}
+use Rattle.std.specs.List.{list_any}
+use Rattle.std.specs.BTreeMap.{is_at}
+use Rattle.std.specs.Prelude.{if◌then◌else◌}
 use Rattle.std.specs.declared.cmp.Ordering.{Ordering}
 use Rattle.p2p_tracker.specs.declared.directory.Metadata.{Metadata}
 use Rattle.p2p_directory.specs.declared.run.commands.Command.{Command}
@@ -9,11 +14,13 @@ use Rattle.p2p_tracker.specs.World.{World}
 use Rattle.p2p_directory.specs.Held.{held_of}
 use Rattle.p2p_directory.specs.Refinement.{Refines}
 use Rattle.p2p_directory.specs.Run.{call_of, world_after, next, Holds}
-use Rattle.p2p_directory.specs.Nodes.{Made, NodeView, NodeStandsAt, IsStepped, IsSteppedAt, made_of, StandsSomewhere}
-use Rattle.p2p_directory.specs.Private.Endpoints.{IsEndpointServedAt}
-use Rattle.p2p_directory.specs.Private.Serving.{ServerView, StandsAt}
+use Rattle.p2p_directory.specs.Nodes.{Made, NodeView, NodeStandsAt, IsStepped, made_of, StandsSomewhere}
+use Rattle.p2p_directory.specs.Nodes.{IsSame, KeepsRoom, has_slot, is_named}
+use Rattle.p2p_directory.specs.Private.Networks.{IsNodeServedAt, has_room}
+use Rattle.p2p_directory.specs.Private.Serving.{ServerView, StandsAt, node_at, has_slot_for, reserved_peer}
 use Rattle.p2p_directory.specs.Private.Serving as serving
-use Rattle.p2p_directory.specs.Private.Slots.{held_in, contents, AreSlots}
+use Rattle.p2p_directory.specs.Private.Slots.{contents, held_in, slot_of, AreSlots, KeepsSlots}
+use Rattle.p2p_directory.specs.Private.Slots as in_slots
 use Rattle.p2p_discovery.specs.declared.discovery.PayloadConfig.{PayloadConfig}
 use Rattle.p2p_discovery.specs.Judgement.{Verifier}
 use Rattle.std.specs.Cmp.{IsTotalOrder}
@@ -50,7 +57,7 @@ pub served : {C S : Type 0} (m : Made C S) (calls : List (Call C S)) (n n2 : Nod
     n2.directory ≡ v2.directory →
     ((q : C) → held_of m.directory.cmp n2.held q ≡ held_in m.directory.cmp v2.slots q) → n2.limits ≡ n.limits →
     n2.verifier ≡ n.verifier →
-    (StandsAt m.directory calls v → serving.IsCallServedAt m.directory calls c r v2) → NodeStandsAt m calls n → IsEndpointServedAt m calls c r n2
+    (StandsAt m.directory calls v → serving.IsCallServedAt m.directory calls c r v2) → NodeStandsAt m calls n → IsNodeServedAt m calls c r n2
 served m calls n n2 v v2 c r directory held directory2 held2 limits verifier serves at =
     let answers = serves (of_node m calls n v directory held at) in
     record {
@@ -60,13 +67,6 @@ served m calls n n2 v v2 c r directory held directory2 held2 limits verifier ser
           (verifier ∙ at.verifier) answers.left;
     }
 
--- a step: n2 has room for the command, n3 has served it, and n4 has no more room than it needs
-pub stepped : {C S : Type 0} (m : Made C S) (calls : List (Call C S)) (n n2 n3 n4 : NodeView C S) (c : Call C S) (r : Reply C S) → n2 ≡ n → n4 ≡ n3 →
-    (NodeStandsAt m calls n2 → IsEndpointServedAt m calls c r n3) → NodeStandsAt m calls n → IsSteppedAt m calls c r n4
-stepped m calls n n2 n3 n4 c r room less serves at =
-    let answers = serves (subst (NodeStandsAt m calls) (sym room) at) in
-    record { answer = inl answers.answer; left = subst (NodeStandsAt m (next m.directory calls c r)) (sym less) answers.left }
-
 -- a command that a server served, where nothing is left to do: n is the node before it, n2 after it
 pub stepped_by : {C S : Type 0} (cmp : C → C → Ordering) (x : Command C S) (r : Reply C S) (n n2 : NodeView C S) (v v2 : ServerView C S) →
     n.directory ≡ v.directory → ((q : C) → held_of cmp n.held q ≡ held_in cmp v.slots q) →
@@ -75,9 +75,9 @@ pub stepped_by : {C S : Type 0} (cmp : C → C → Ordering) (x : Command C S) (
     n2.verifier ≡ n.verifier → serving.IsServed cmp x r v v2 → IsStepped cmp x r n n2
 stepped_by cmp x r n n2 v v2 directory held directory2 held2 limits verifier serves = λ given calls at.
     let m = made_of cmp given in
-    stepped m calls n n n2 n2 (call_of x) r refl refl
-    (served m calls n n2 v v2 (call_of x) r directory held directory2 held2 limits verifier
-    (serves given.bootstrappers.items given.myself given.cfg calls)) at
+    let answers = served m calls n n2 v v2 (call_of x) r directory held directory2 held2 limits verifier
+    (serves given.bootstrappers.items given.myself given.cfg calls) at in
+    record { answer = inl answers.answer; left = answers.left }
 
 -- IT STANDS SOMEWHERE after each step
 
@@ -91,20 +91,47 @@ still cmp x r n n2 somewhere steps =
       stands = (steps somewhere.given somewhere.calls somewhere.stands).left;
     }
 
--- .. where nothing is seen to change
-pub still_same : {C S : Type 0} (cmp : C → C → Ordering) (n n2 : NodeView C S) → n2 ≡ n → StandsSomewhere cmp n → StandsSomewhere cmp n2
-still_same cmp n n2 same somewhere = subst (StandsSomewhere cmp) (sym same) somewhere
+-- .. where nothing is seen to change but slots
+pub stands_same : {C S : Type 0} (m : Made C S) (calls : List (Call C S)) (n n2 : NodeView C S) →
+    IsSame n n2 → NodeStandsAt m calls n → NodeStandsAt m calls n2
+stands_same m calls n n2 same at = subst (NodeStandsAt m calls) (sym same) (record {
+  limit_fits = at.limit_fits;
+  refines = at.refines;
+  holds = at.holds;
+  limits = at.limits;
+  verifier = at.verifier;
+})
 
--- THE NODE OF A SERVER whose slots are in order
-
--- .. with these limits and this verifier
-abbrev pub node_at : {C S : Type 0} → PayloadConfig → Verifier C → ServerView C S → NodeView C S
-node_at limits verifier v = record {
-  directory = v.directory;
-  held = contents v.slots;
-  limits = limits;
-  verifier = verifier;
+pub still_same : {C S : Type 0} (cmp : C → C → Ordering) (n n2 : NodeView C S) → IsSame n n2 →
+    StandsSomewhere cmp n → StandsSomewhere cmp n2
+still_same cmp n n2 same somewhere = record {
+  given = somewhere.given;
+  calls = somewhere.calls;
+  stands = stands_same (made_of cmp somewhere.given) somewhere.calls n n2 same somewhere.stands;
 }
+
+-- there is a slot of q where its key is among those of slots
+pub slot_is : {C S : Type 0} (cmp : C → C → Ordering) (slots : List (C × Option (Metadata C S)))
+    (q : C) → in_slots.has_slot cmp slots q ≡ list_any (is_at (cmp q)) (keys_of slots)
+slot_is cmp [] q = refl
+slot_is {C} {S} cmp (slot ∷ slots) q = go (is_at (cmp q) slot.0) (slot_is cmp slots q)
+  where
+    go : (b : Bool) → in_slots.has_slot cmp slots q ≡ list_any (is_at (cmp q)) (keys_of slots) →
+        is_some (cond b (Some slot.1) (slot_of cmp slots q))
+        ≡ b || list_any (is_at (cmp q)) (keys_of slots)
+    go true h = refl
+    go false h = h
+
+-- there is room for a command at a node where there is a slot for it
+pub room_is : {C S : Type 0} (cmp : C → C → Ordering) (limits : PayloadConfig) (verifier : Verifier C)
+    (v : ServerView C S) (x : Command C S) →
+    has_slot_for cmp v.slots x ≡ has_room cmp (node_at limits verifier v) x
+room_is {C} cmp limits verifier v x = go (reserved_peer x)
+  where
+    go : (o : Option C) → option_map_or (in_slots.has_slot cmp v.slots) o true
+        ≡ option_map_or (has_slot cmp (node_at limits verifier v)) o true
+    go None = refl
+    go (Some q) = slot_is cmp v.slots q
 
 module _ {C S : Type 0} {cmp : C → C → Ordering} (total : IsTotalOrder cmp) (exact : CmpEqualImpliesEq cmp)
     (limits : PayloadConfig) (verifier : Verifier C) where
@@ -128,10 +155,22 @@ module _ {C S : Type 0} {cmp : C → C → Ordering} (total : IsTotalOrder cmp) 
 
   -- what is held of it is the same list, where the same is held of each peer
   pub same_node : (v v2 : ServerView C S) → AreSlots cmp v.slots → AreSlots cmp v2.slots → v2.directory ≡ v.directory →
-      ((q : C) → held_in cmp v2.slots q ≡ held_in cmp v.slots q) → node_at limits verifier v2 ≡ node_at limits verifier v
+      ((q : C) → held_in cmp v2.slots q ≡ held_in cmp v.slots q) →
+      IsSame (node_at limits verifier v) (node_at limits verifier v2)
   same_node v v2 are are2 directory held i = record {
     directory = directory i;
     held = same_contents total exact v.slots v2.slots are are2 held i;
+    slots = keys_of v2.slots;
     limits = limits;
     verifier = verifier;
   }
+
+  -- a slot is left for the peer that is named, if one is, where something is held of it
+  pub keeps_room : (named : Option C) (v v2 : ServerView C S) → AreSlots cmp v2.slots →
+      KeepsSlots cmp named v.slots v2.slots →
+      KeepsRoom cmp named (node_at limits verifier v) (node_at limits verifier v2)
+  keeps_room named v v2 are2 kept q = sym (slot_is cmp v2.slots q) ∙ kept q
+      ∙ ap (λ o. if is_named cmp named q then is_some o else in_slots.has_slot cmp v.slots q)
+      (sym (held_is total exact v2.slots are2 q))
+      ∙ ap (λ b. if is_named cmp named q then is_some (held_of cmp (contents v2.slots) q) else b)
+      (slot_is cmp v.slots q)

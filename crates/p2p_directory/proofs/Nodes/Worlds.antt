@@ -7,8 +7,6 @@ use Rattle.p2p_discovery.specs.declared.discovery.Info.{Info}
 use Rattle.p2p_discovery.specs.declared.discovery.PayloadConfig.{PayloadConfig}
 use Rattle.p2p_discovery.specs.Judgement.{judge_of, Verifier}
 use Rattle.p2p_directory.specs.declared.node.received.Received.{Received}
-use Rattle.p2p_tracker.specs.declared.directory.Metadata.{Metadata}
-use Rattle.p2p_tracker.specs.Seen.{DirectoryView}
 use Rattle.p2p_tracker.specs.Calls.{Call}
 use Rattle.p2p_tracker.specs.Calls.Call.{Update}
 use Rattle.p2p_tracker.specs.Calls.Event.{Updated}
@@ -23,7 +21,8 @@ use Rattle.p2p_directory.specs.declared.node.exchanged.Exchanged.{Exchanged}
 use Rattle.p2p_directory.specs.Exchange as exchange
 use Rattle.p2p_directory.specs.Exchange.{exchanged_at, infos_applied, IsExchangedAt, HasSpelling, ExchangeOutcome, IsCarried}
 use Rattle.p2p_directory.specs.Nodes.{Made, NodeView, NodeStandsAt, IsAnsweredAt, IsReceivedAt, IsReceivedByAt, IsAskedAt, standing_of, standing_in, calls_with, IsLeft, Answers, AsksWith, AreValues, StandsSomewhere, made_of}
-use Rattle.p2p_directory.specs.Private.Slots.{contents, AreSlots}
+use Rattle.p2p_directory.specs.Private.Serving.{ServerView, node_at}
+use Rattle.p2p_directory.specs.Private.Slots.{AreSlots}
 use Rattle.p2p_directory.proofs.Definitions.Law
 use Rattle.p2p_directory.proofs.LawsOfRuns.Forgotten
 use Rattle.p2p_directory.proofs.Refinement.KnowledgeRefines
@@ -142,19 +141,19 @@ module _ {C S : Type 0} (m n : Made C S) (wire : Wire C S) (cs ds : List (Call C
 -- IT STANDS SOMEWHERE
 
 -- .. once infos were applied, with the same slots
-pub still_updated : {C S : Type 0} (cmp : C → C → Ordering) (d d2 : DirectoryView C S) (slots slots2 : List (C × Option (Metadata C S)))
-    (limits : PayloadConfig) (verifier : Verifier C) (infos : List (Info C S)) → slots2 ≡ slots → Updates cmp d d2 infos →
-    AreSlots cmp slots → StandsSomewhere cmp (record { directory = d; held = contents slots; limits = limits; verifier = verifier }) →
-    AreSlots cmp slots2 × StandsSomewhere cmp (record { directory = d2; held = contents slots2; limits = limits; verifier = verifier })
-still_updated cmp d d2 slots slots2 limits verifier infos same change are somewhere =
+pub still_updated : {C S : Type 0} (cmp : C → C → Ordering) (v v2 : ServerView C S)
+    (limits : PayloadConfig) (verifier : Verifier C) (infos : List (Info C S)) → v2.slots ≡ v.slots →
+    Updates cmp v.directory v2.directory infos → AreSlots cmp v.slots →
+    StandsSomewhere cmp (node_at limits verifier v) →
+    AreSlots cmp v2.slots × StandsSomewhere cmp (node_at limits verifier v2)
+still_updated cmp v v2 limits verifier infos same change are somewhere =
     let given = somewhere.given in (
       subst (AreSlots cmp) (sym same) are,
       record {
         given = given;
         calls = Update infos ∷ somewhere.calls;
-        stands = updated (made_of cmp given) somewhere.calls (record { directory = d; held = contents slots; limits = limits; verifier = verifier })
-            somewhere.stands given.cfg.max_sets.ok infos
-            (record { directory = d2; held = contents slots2; limits = limits; verifier = verifier }) change
-            (ap (λ xs. record { directory = d2; held = contents xs; limits = limits; verifier = verifier }) same);
+        stands = updated (made_of cmp given) somewhere.calls (node_at limits verifier v)
+            somewhere.stands given.cfg.max_sets.ok infos (node_at limits verifier v2) change
+            (ap (λ slots. node_at limits verifier (record { directory = v2.directory; slots = slots })) same);
       },
     )

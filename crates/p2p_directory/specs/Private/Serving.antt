@@ -1,19 +1,22 @@
 -- Serving one command: from wherever the calls accepted before led, the reply is the answer.
-use Rattle.std.specs.Prelude.{◌≡◌, ◌⊎◌, ◌<◌, ◌^◌, Bool, true, List, Option, Some}
+use Rattle.std.specs.Prelude.{◌≡◌, ◌⊎◌, ◌<◌, ◌^◌, Bool, true, List, Option}
 use Rattle.std.specs.Option.{option_map_or}
 use Rattle.std.specs.declared.cmp.Ordering.{Ordering}
 use Rattle.p2p_discovery.specs.declared.discovery.Info.{Info}
+use Rattle.p2p_discovery.specs.declared.discovery.PayloadConfig.{PayloadConfig}
 use Rattle.p2p_discovery.specs.declared.types.ingress.Ingress.{Ingress}
+use Rattle.p2p_discovery.specs.Judgement.{Verifier}
 use Rattle.p2p_tracker.specs.declared.directory.Config.{Config}
 use Rattle.p2p_tracker.specs.declared.directory.Metadata.{Metadata}
 use Rattle.p2p_directory.specs.declared.run.commands.Command.{Command}
-use Rattle.p2p_directory.specs.declared.run.commands.Command.TheVariants as command
 use Rattle.p2p_directory.specs.declared.run.commands.Reply.{Reply}
 use Rattle.p2p_directory.specs.declared.run.commands.Reply.TheVariants as reply
 use Rattle.p2p_tracker.specs.Calls.{Settings, Call, may_reserve, reserved_by}
 use Rattle.p2p_tracker.specs.Seen.{DirectoryView}
 use Rattle.p2p_directory.specs.Refinement.{Refines}
-use Rattle.p2p_directory.specs.Private.Slots.{has_slot, held_in}
+use Rattle.p2p_directory.specs.Nodes.{NodeView}
+use Rattle.std.specs.Map.{keys_of}
+use Rattle.p2p_directory.specs.Private.Slots.{contents, has_slot, held_in}
 use Rattle.p2p_directory.specs.Run.{settings, call_of, world_after, IsAnswer, next, Holds}
 
 -- a directory, and slots for the reservations that it granted
@@ -21,14 +24,19 @@ pub record ServerView (C S : Type 0) : Type 0 where
   pub directory : DirectoryView C S
   pub slots : List (C × Option (Metadata C S))
 
+-- the node of a server, with these limits and this verifier
+abbrev pub node_at : {C S : Type 0} → PayloadConfig → Verifier C → ServerView C S → NodeView C S
+node_at limits verifier v = record {
+  directory = v.directory;
+  held = contents v.slots;
+  slots = keys_of v.slots;
+  limits = limits;
+  verifier = verifier;
+}
+
 -- the peer that the command may be granted a reservation of, if there is one
 abbrev pub reserved_peer : {C S : Type 0} → Command C S → Option C
 reserved_peer x = reserved_by (call_of x)
-
--- .. or that it may release
-abbrev pub named_peer : {C S : Type 0} → Command C S → Option C
-named_peer (command.Release peer) = Some peer
-named_peer x = reserved_peer x
 
 -- there is a slot for what the command may be granted
 abbrev pub has_slot_for : {C S : Type 0} → (C → C → Ordering) →

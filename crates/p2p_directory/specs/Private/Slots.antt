@@ -1,6 +1,6 @@
 -- Slots, made beforehand for the reservations of some peers, by what private contracts see of them.
-use Rattle.std.specs.Prelude.{◌≡◌, ◌<◌, ◌≤◌, ℕ, Bool, true, false, List, [], ◌∷◌, length, Option}
-use Rattle.std.specs.Prelude.{Some, None, is_some, IfSome, Result, MatchResult, if◌then◌else◌}
+use Rattle.std.specs.Prelude.{◌≡◌, ◌<◌, ◌≤◌, ℕ, Bool, true, List, [], ◌∷◌, length, Option}
+use Rattle.std.specs.Prelude.{is_some, IfSome, Result, MatchResult, if◌then◌else◌}
 use Rattle.std.specs.List.{filter_map, HoldsAt}
 use Rattle.std.specs.List.Sorted.{IsStrictlySortedBy, IsPartitionPoint}
 use Rattle.std.specs.Option.{option_flatten}
@@ -10,6 +10,7 @@ use Rattle.std.specs.declared.cmp.Ordering.TheVariants.{Less, Greater}
 use Rattle.std.specs.BTreeMap.{is_at}
 use Rattle.p2p_tracker.specs.declared.directory.Metadata.{Metadata}
 use Rattle.p2p_tracker.specs.Seen.{key_of}
+use Rattle.p2p_directory.specs.Nodes.{is_named}
 
 -- what is held in slots
 abbrev pub contents : {C X : Type 0} → List (C × Option X) → List X
@@ -19,11 +20,6 @@ contents slots = filter_map (λ slot. slot.1) slots
 abbrev pub begins_full : {C X : Type 0} → List (C × Option X) → Bool
 begins_full [] = true
 begins_full (slot ∷ slots) = is_some slot.1
-
--- q is the peer that is named, if one is
-abbrev pub is_named : {C : Type 0} → (C → C → Ordering) → Option C → C → Bool
-is_named cmp None q = false
-is_named cmp (Some p) q = is_at (cmp p) q
 
 module _ {C S : Type 0} (cmp : C → C → Ordering) where
   -- the slot of q, if there is one
@@ -37,11 +33,11 @@ module _ {C S : Type 0} (cmp : C → C → Ordering) where
   abbrev pub held_in : List (C × Option (Metadata C S)) → C → Option (Metadata C S)
   held_in slots q = option_flatten (slot_of slots q)
 
-  -- a call that names a peer, or none, leaves room for that peer exactly where something is held of
-  -- it, and for each other peer where there was some
-  abbrev pub KeepsRoom : Option C → List (C × Option (Metadata C S)) →
+  -- a call that names a peer, or none, leaves a slot for that peer exactly where something is held
+  -- of it, and for each other peer where there was one
+  abbrev pub KeepsSlots : Option C → List (C × Option (Metadata C S)) →
       List (C × Option (Metadata C S)) → Type 0
-  KeepsRoom named before after = (q : C) → has_slot after q ≡ (if is_named cmp named q
+  KeepsSlots named before after = (q : C) → has_slot after q ≡ (if is_named cmp named q
       then is_some (held_in after q)
       else has_slot before q)
 

@@ -1,8 +1,8 @@
 //! The calls of a node that may change its directory, made without a command.
 
-ghost use Rattle.std.specs.Prelude.{◌≡◌, false};
+ghost use Rattle.std.specs.Prelude.{◌≡◌, false, Some};
 ghost use Rattle.p2p_directory.specs.Run.{was_made};
-ghost use Rattle.p2p_directory.specs.Nodes.{IsStepped, TearsDownFew};
+ghost use Rattle.p2p_directory.specs.Nodes.{IsSame, IsStepped, KeepsRoom, TearsDownFew};
 ghost use Rattle.p2p_directory.specs.declared.run.commands.Command.{Command};
 ghost use Rattle.p2p_directory.specs.declared.run.commands.Reply.{Reply};
 
@@ -23,17 +23,18 @@ impl<C: PublicKey> Node<C> {
     pub fn track(&mut self, index: u64, peers: TrackedPeers<C>) -> Reply<C>
         ensures stepped { IsStepped C.cmp (Command.Track index peers) result self.old self.new }
         ensures unchanged { was_made result ≡ false → self.new ≡ self.old }
+        ensures room { self.new.slots ≡ self.old.slots }
         ensures limits { self.new.limits ≡ self.old.limits }
         ensures verifier { self.new.verifier ≡ self.old.verifier }
         ensures few { TearsDownFew self.old.directory result }
     {
-        self.endpoint.server.track(index, peers)
+        self.server.track(index, peers)
     }
 
     /// Calls the node's directory to reserve the peer for a dial at the time `now`, a duration
     /// since the epoch, as [`Node::step`] of `Command::Dial` does. `draw` is a random duration, for
     /// the jitter. A granted reservation is held. If an allocation fails, it returns
-    /// `Reply::OutOfMemory`.
+    /// `Reply::OutOfMemory`. No slot is kept of a peer of whom nothing is held.
     ///
     /// # Cost
     ///
@@ -42,17 +43,18 @@ impl<C: PublicKey> Node<C> {
     pub fn dial(&mut self, peer: &C, now: Duration, draw: Duration) -> Reply<C>
         ensures stepped { IsStepped C.cmp (Command.Dial peer.now now draw) result
             self.old self.new }
-        ensures unchanged { was_made result ≡ false → self.new ≡ self.old }
+        ensures unchanged { was_made result ≡ false → IsSame self.old self.new }
+        ensures room { KeepsRoom C.cmp (Some peer.now) self.old self.new }
         ensures limits { self.new.limits ≡ self.old.limits }
         ensures verifier { self.new.verifier ≡ self.old.verifier }
     {
-        self.endpoint.server.dial_slot(peer, now, draw)
+        self.server.dial_slot(peer, now, draw)
     }
 
     /// Calls the node's directory to reserve an inbound peer at the time `now`, a duration since
     /// the epoch, as [`Node::step`] of `Command::Listen` does. `draw` is a random duration, for the
     /// jitter. A granted reservation is held. If an allocation fails, it returns
-    /// `Reply::OutOfMemory`.
+    /// `Reply::OutOfMemory`. No slot is kept of a peer of whom nothing is held.
     ///
     /// # Cost
     ///
@@ -61,11 +63,12 @@ impl<C: PublicKey> Node<C> {
     pub fn listen(&mut self, peer: &C, now: Duration, draw: Duration) -> Reply<C>
         ensures stepped { IsStepped C.cmp (Command.Listen peer.now now draw) result
             self.old self.new }
-        ensures unchanged { was_made result ≡ false → self.new ≡ self.old }
+        ensures unchanged { was_made result ≡ false → IsSame self.old self.new }
+        ensures room { KeepsRoom C.cmp (Some peer.now) self.old self.new }
         ensures limits { self.new.limits ≡ self.old.limits }
         ensures verifier { self.new.verifier ≡ self.old.verifier }
     {
-        self.endpoint.server.listen_slot(peer, now, draw)
+        self.server.listen_slot(peer, now, draw)
     }
 
     /// Calls the node's directory to connect the peer if it is reserved, as [`Node::step`] of
@@ -78,10 +81,11 @@ impl<C: PublicKey> Node<C> {
         ensures stepped { IsStepped C.cmp (Command.Connect peer.now dialer) result
             self.old self.new }
         ensures unchanged { was_made result ≡ false → self.new ≡ self.old }
+        ensures room { self.new.slots ≡ self.old.slots }
         ensures limits { self.new.limits ≡ self.old.limits }
         ensures verifier { self.new.verifier ≡ self.old.verifier }
     {
-        self.endpoint.server.connect(peer, dialer)
+        self.server.connect(peer, dialer)
     }
 
     /// Calls the node's directory to release the reservation of the peer if one is held, as
@@ -92,11 +96,12 @@ impl<C: PublicKey> Node<C> {
     /// A search among the reservations, and that of [`Directory::release`].
     pub fn release(&mut self, peer: &C) -> Reply<C>
         ensures stepped { IsStepped C.cmp (Command.Release peer.now) result self.old self.new }
-        ensures unchanged { was_made result ≡ false → self.new ≡ self.old }
+        ensures unchanged { was_made result ≡ false → IsSame self.old self.new }
+        ensures room { KeepsRoom C.cmp (Some peer.now) self.old self.new }
         ensures limits { self.new.limits ≡ self.old.limits }
         ensures verifier { self.new.verifier ≡ self.old.verifier }
     {
-        self.endpoint.server.release_slot(peer)
+        self.server.release_slot(peer)
     }
 
     /// Calls the node's directory to block the peer at the time `now`, a duration since the epoch,
@@ -109,10 +114,11 @@ impl<C: PublicKey> Node<C> {
     pub fn block(&mut self, peer: &C, now: Duration) -> Reply<C>
         ensures stepped { IsStepped C.cmp (Command.Block peer.now now) result self.old self.new }
         ensures unchanged { was_made result ≡ false → self.new ≡ self.old }
+        ensures room { self.new.slots ≡ self.old.slots }
         ensures limits { self.new.limits ≡ self.old.limits }
         ensures verifier { self.new.verifier ≡ self.old.verifier }
     {
-        self.endpoint.server.block(peer, now)
+        self.server.block(peer, now)
     }
 
     /// Calls the node's directory to end the blocks that hold until the time `now`, a duration
@@ -125,10 +131,11 @@ impl<C: PublicKey> Node<C> {
     pub fn unblock_expired(&mut self, now: Duration) -> bool
         ensures stepped { IsStepped C.cmp (Command.UnblockExpired now) (Reply.UnblockExpired result)
             self.old self.new }
+        ensures room { self.new.slots ≡ self.old.slots }
         ensures limits { self.new.limits ≡ self.old.limits }
         ensures verifier { self.new.verifier ≡ self.old.verifier }
     {
-        self.endpoint.server.unblock_expired(now)
+        self.server.unblock_expired(now)
     }
 
     /// Calls the node's directory to forget the cooldowns whose dial time is at or before the time
@@ -141,9 +148,10 @@ impl<C: PublicKey> Node<C> {
     pub fn forget_cooled(&mut self, now: Duration) -> usize
         ensures stepped { IsStepped C.cmp (Command.ForgetCooled now) (Reply.ForgetCooled result)
             self.old self.new }
+        ensures room { self.new.slots ≡ self.old.slots }
         ensures limits { self.new.limits ≡ self.old.limits }
         ensures verifier { self.new.verifier ≡ self.old.verifier }
     {
-        self.endpoint.server.forget_cooled(now)
+        self.server.forget_cooled(now)
     }
 }

@@ -89,7 +89,5 @@ pub fn exchange<C: PublicKey>(
     ensures carried { Carries C.cmp (wire_of C.verifies C.FixedBytes C.Signature.FixedBytes) place
         (as_nanos asker_now) (as_nanos replier_now) result asker.old replier.now asker.new }
 {
-    asker
-        .endpoint
-        .exchange_with(&replier.endpoint, place, asker_now, replier_now)
+    asker.exchange_with(replier, place, asker_now, replier_now)
 }

@@ -37,7 +37,7 @@ impl<C: PublicKey> Node<C> {
         ensures asked { IsAsked C.cmp (wire_of C.verifies C.FixedBytes C.Signature.FixedBytes)
             place result self.now }
     {
-        self.endpoint.ask(place)
+        self.ask_frame(place)
     }
 
     /// Processes a frame that the node received at the time `now`, a duration since the epoch.
@@ -79,7 +79,7 @@ impl<C: PublicKey> Node<C> {
             (wire_of C.verifies C.FixedBytes C.Signature.FixedBytes)
             C.IsValue C.Signature.IsValue m calls frame (as_nanos now) result) }
     {
-        self.endpoint.answer(frame, now)
+        self.answer(frame, now)
     }
 
     /// Processes a frame that the node received at the time `now` as [`Node::receive`] does, given
@@ -120,7 +120,7 @@ impl<C: PublicKey> Node<C> {
             OnErr result (are_miscounted wire node frame verdicts.now ≡ true) }
         ensures err_same { OnErr result (self.new ≡ self.old) }
     {
-        self.endpoint.answer_with_verdicts(frame, now, verdicts)
+        self.answer_frame(frame, now, verdicts)
     }
 
     /// Decodes a frame that the node received, as [`Node::receive`] does: under the limits of the
@@ -139,12 +139,7 @@ impl<C: PublicKey> Node<C> {
         ensures frame { IfOk result (λ d. d.frame ≡ frame) }
         ensures limits { IfOk result (λ d. d.limits ≡ self.now.limits) }
     {
-        let endpoint = &self.endpoint;
-        Decoded::new(
-            endpoint.server.directory().allocator(),
-            frame,
-            endpoint.payload,
-        )
+        Decoded::new(self.server.directory().allocator(), frame, self.payload)
     }
 
     /// Processes a frame that the node received and decoded, at the time `now`, as
@@ -182,6 +177,6 @@ impl<C: PublicKey> Node<C> {
             OnErr result (are_miscounted wire node decoded.frame verdicts.now ≡ true) }
         ensures err_same { OnErr result (self.new ≡ self.old) }
     {
-        self.endpoint.answer_decoded(decoded, now, verdicts)
+        self.answer_decoded_frame(decoded, now, verdicts)
     }
 }

@@ -9,15 +9,13 @@ ghost use Rattle.p2p_directory.specs.Received.{wire_of};
 ghost use Rattle.p2p_directory.specs.Nodes.{NodeView, NodeStandsAt, made_of};
 ghost use Rattle.p2p_directory.specs.Network.{OfNetwork, StandAfter, AreNetworkAnswers, done_after};
 ghost use Rattle.p2p_directory.specs.Network.{IsNetworkServed, IsServedAmong, AreReleased};
-ghost use Rattle.p2p_directory.specs.Network.{IsAdded, IsReplaced, may_change};
+ghost use Rattle.p2p_directory.specs.Network.{IsAdded, IsReplaced, may_change, AreSame, KeepRoom};
 ghost use Rattle.p2p_directory.specs.Laws.Network.{AtEachPoint, PointLaws, OfEachReply, ReplyLaws};
-ghost use Rattle.p2p_directory.specs.Private.Endpoints.{node_of};
 
 use crate::node::Node;
-use crate::node::endpoint::Endpoint;
 use crate::node::exchanged::Exchanged;
 pub use crate::node::network::commands::{NetworkCommand, NetworkReply};
-use crate::node::network::endpoints::{ask, exchange, make_room, receive, serve, step, swap_at};
+use crate::node::network::nodes::{ask, exchange, make_room, receive, serve, step, swap_at};
 use crate::node::setup::Setup;
 use crate::run::Command;
 use bytes::Bytes;
@@ -28,12 +26,12 @@ use std::marker::Model;
 use std::time::Duration;
 
 mod commands;
-mod endpoints;
+mod nodes;
 
 /// Any number of nodes, which are counted from 0. A contract sees each of them. It must be consumed
 /// by [`Network::finish`].
 pub struct Network<C: PublicKey> {
-    endpoints: Vec<Endpoint<C>>,
+    nodes: Vec<Node<C>>,
     // Capacity for the directories that are returned in the end.
     room: Vec<Directory<C>>,
 }
@@ -42,14 +40,13 @@ impl<C: PublicKey> Model for Network<C> {
     ghost use Rattle.std.specs.Prelude.{◌≡◌, ◌≤◌, List, [], length};
     ghost use Rattle.std.specs.Vec.{vec_capacity};
     ghost use Rattle.p2p_directory.specs.Nodes.{NodeView};
-    ghost use Rattle.p2p_directory.specs.Private.Networks.{nodes_of};
 
     ghost Value = { List (NodeView C C.Signature) };
 
-    ghost view = { λ n. nodes_of n.endpoints.items };
+    ghost view = { λ n. n.nodes.items };
 
     ghost invariant = { λ n.
-        (n.room.items ≡ []) × (length n.endpoints.items ≤ vec_capacity n.room) };
+        (n.room.items ≡ []) × (length n.nodes.items ≤ vec_capacity n.room) };
 }
 
 impl<C: PublicKey> Network<C> {
@@ -75,17 +72,17 @@ impl<C: PublicKey> Network<C> {
             IsInfo s.myself × IsKeyed C.IsValue C.Signature.IsValue s.myself) setups.items) }
     {
         let room = Vec::with_capacity(alloc, setups.len())?;
-        let mut endpoints = Vec::with_capacity(alloc, setups.len())?;
+        let mut nodes = Vec::with_capacity(alloc, setups.len())?;
         for setup in setups {
-            match end_of(alloc, setup) {
-                Ok(end) => endpoints.push_reserved(end),
+            match Node::new(alloc, setup) {
+                Ok(node) => nodes.push_reserved(node),
                 Err(AllocError) => {
-                    Network { endpoints, room }.finish();
+                    Network { nodes, room }.finish();
                     return Err(AllocError);
                 }
             }
         }
-        Ok(Network { endpoints, room })
+        Ok(Network { nodes, room })
     }
 
     /// A network without nodes. It doesn't allocate.
@@ -93,7 +90,7 @@ impl<C: PublicKey> Network<C> {
         ensures { result ≡ [] }
     {
         Network {
-            endpoints: Vec::new(alloc),
+            nodes: Vec::new(alloc),
             room: Vec::new(alloc),
         }
     }
@@ -119,10 +116,10 @@ impl<C: PublicKey> Network<C> {
         ensures own { OnOk result
             (IsInfo setup.myself × IsKeyed C.IsValue C.Signature.IsValue setup.myself) }
     {
-        self.endpoints.reserve(1)?;
-        self.room.reserve(self.endpoints.len() + 1)?;
-        let end = end_of(alloc, setup)?;
-        self.endpoints.push_reserved(end);
+        self.nodes.reserve(1)?;
+        self.room.reserve(self.nodes.len() + 1)?;
+        let node = Node::new(alloc, setup)?;
+        self.nodes.push_reserved(node);
         Ok(())
     }
 
@@ -154,11 +151,11 @@ impl<C: PublicKey> Network<C> {
         ensures own { IfOk result (λ left. IfSome left (λ _.
             IsInfo setup.myself × IsKeyed C.IsValue C.Signature.IsValue setup.myself)) }
     {
-        if node >= self.endpoints.len() {
+        if node >= self.nodes.len() {
             return Ok(None);
         }
-        let end = end_of(alloc, setup)?;
-        let old = swap_at(&mut self.endpoints, node, end);
+        let new = Node::new(alloc, setup)?;
+        let old = swap_at(&mut self.nodes, node, new);
         Ok(Some(old.finish()))
     }
 
@@ -167,7 +164,8 @@ impl<C: PublicKey> Network<C> {
     /// whose reply is `NoNode`, `NotReserved` or `NotHeld`, has no effect.
     ///
     /// A `Call` is served as [`Node::step`] does: space for a reservation is allocated before a
-    /// `Dial` or a `Listen`, so the reply to both may be `OutOfMemory` if that fails.
+    /// `Dial` or a `Listen`, so the reply to both may be `OutOfMemory` if that fails. No slot is kept
+    /// of a peer of whom nothing is held.
     ///
     /// A command to one node leaves all others as they were, and an exchange all but the asker.
     ///
@@ -179,14 +177,15 @@ impl<C: PublicKey> Network<C> {
             IsNetworkServed C.cmp wire command result self.old self.new }
         ensures seen { IsServedAmong C.cmp (wire_of C.verifies C.FixedBytes C.Signature.FixedBytes)
             command result self.old self.new }
-        ensures unchanged { may_change result ≡ false → self.new ≡ self.old }
+        ensures unchanged { may_change result ≡ false → AreSame self.old self.new }
+        ensures room { KeepRoom C.cmp command self.old self.new }
         ensures count { length self.new ≡ length self.old }
     {
         match command {
-            NetworkCommand::Call(node, command) => step(&mut self.endpoints, node, command),
-            NetworkCommand::Ask(node, place) => ask(&self.endpoints, node, place),
+            NetworkCommand::Call(node, command) => step(&mut self.nodes, node, command),
+            NetworkCommand::Ask(node, place) => ask(&self.nodes, node, place),
             NetworkCommand::Frame(node, frame, now) => receive(
-                &mut self.endpoints,
+                &mut self.nodes,
                 node,
                 frame,
                 now,
@@ -198,7 +197,7 @@ impl<C: PublicKey> Network<C> {
                 asker_now,
                 replier_now,
             } => exchange(
-                &mut self.endpoints,
+                &mut self.nodes,
                 asker,
                 replier,
                 place,
@@ -212,7 +211,7 @@ impl<C: PublicKey> Network<C> {
     pub fn len(&self) -> usize
         ensures { result ≡ length self.now }
     {
-        self.endpoints.len()
+        self.nodes.len()
     }
 
     /// The directory of a node of the network, or `None` if there is no such node.
@@ -221,10 +220,10 @@ impl<C: PublicKey> Network<C> {
             (v : NodeView C C.Signature) → (node < length self.now)
             × (directory.now ≡ (slice_index_or self.now node v).directory)) }
     {
-        if node >= self.endpoints.len() {
+        if node >= self.nodes.len() {
             return None;
         }
-        Some(self.endpoints[node].directory())
+        Some(self.nodes[node].directory())
     }
 
     /// Releases all reservations of the network, and returns the directories, in the order of their
@@ -237,12 +236,12 @@ impl<C: PublicKey> Network<C> {
         ensures { AreReleased C.cmp self result.items }
     {
         let Network {
-            endpoints,
+            nodes,
             room: mut directories,
         } = self;
-        let mut left = endpoints.into_iter();
-        while let Some(end) = left.next() {
-            directories.push_reserved(end.finish());
+        let mut left = nodes.into_iter();
+        while let Some(node) = left.next() {
+            directories.push_reserved(node.finish());
         }
         left.destroy_empty();
         directories
@@ -255,31 +254,19 @@ impl<C: PublicKey> Network<C> {
         requires { length self ≡ 2 }
         ensures { self ≡ result.0 ∷ result.1 ∷ [] }
     {
-        let Network { endpoints, room: _ } = self;
-        let mut endpoints = endpoints;
-        match endpoints.pop() {
-            Some(right) => match endpoints.pop() {
+        let Network { nodes, room: _ } = self;
+        let mut nodes = nodes;
+        match nodes.pop() {
+            Some(right) => match nodes.pop() {
                 Some(left) => {
-                    endpoints.destroy_empty();
-                    (Node { endpoint: left }, Node { endpoint: right })
+                    nodes.destroy_empty();
+                    (left, right)
                 }
                 None => unreachable!(),
             },
             None => unreachable!(),
         }
     }
-}
-
-// Makes a new node for the network.
-fn end_of<C: PublicKey>(alloc: Global, setup: Setup<C>) -> Result<Endpoint<C>, AllocError>
-    requires sets { non_zero_usize_get setup.cfg.max_sets < 2 ^ 64 - 1 }
-    requires bits { setup.payload.max_bit_vec < 2 ^ 32 }
-    ensures stands { IfOk result (λ end. NodeStandsAt (made_of C.cmp setup) [] (node_of end)) }
-    ensures own { IfOk result (λ _.
-        IsInfo setup.myself × IsKeyed C.IsValue C.Signature.IsValue setup.myself) }
-{
-    let Node { endpoint } = Node::new(alloc, setup)?;
-    Ok(endpoint)
 }
 
 /// What a run of a network leaves. It must be consumed by [`NetworkRun::finish`], or its nodes by
@@ -361,18 +348,18 @@ pub fn run_network<C: PublicKey>(
 {
     let mut replies = Vec::with_capacity(alloc, commands.len())?;
     let Network {
-        mut endpoints,
+        mut nodes,
         room,
     } = Network::new(alloc, setups)?;
-    if make_room(&mut endpoints, &commands).is_err() {
-        Network { endpoints, room }.finish();
+    if make_room(&mut nodes, &commands).is_err() {
+        Network { nodes, room }.finish();
         return Err(AllocError);
     }
     for command in commands {
-        replies.push_reserved(serve(&mut endpoints, command));
+        replies.push_reserved(serve(&mut nodes, command));
     }
     Ok(NetworkRun {
-        nodes: Network { endpoints, room },
+        nodes: Network { nodes, room },
         replies,
     })
 }

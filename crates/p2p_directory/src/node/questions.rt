@@ -19,7 +19,7 @@ impl<C: PublicKey> Node<C> {
     pub fn next_unblock(&self) -> Option<Duration>
         ensures { IsStepped C.cmp Command.NextUnblock (Reply.NextUnblock result) self.now self.now }
     {
-        self.endpoint.server.next_unblock()
+        self.server.next_unblock()
     }
 
     /// Asks the node's directory for the index of the latest set, as [`Node::step`] replies to
@@ -32,7 +32,7 @@ impl<C: PublicKey> Node<C> {
         ensures { IsStepped C.cmp Command.LatestSetIndex (Reply.LatestSetIndex result)
             self.now self.now }
     {
-        self.endpoint.server.latest_set_index()
+        self.server.latest_set_index()
     }
 
     /// Asks the node's directory whether the peer is connected, as [`Node::step`] replies to
@@ -46,7 +46,7 @@ impl<C: PublicKey> Node<C> {
         ensures { IsStepped C.cmp (Command.Status peer.now) (Reply.Status result)
             self.now self.now }
     {
-        self.endpoint.server.status(peer)
+        self.server.status(peer)
     }
 
     /// Asks the node's directory whether the peer may be connected at the time `now`, a duration
@@ -60,7 +60,7 @@ impl<C: PublicKey> Node<C> {
         ensures { IsStepped C.cmp (Command.Eligible peer.now now) (Reply.Eligible result)
             self.now self.now }
     {
-        self.endpoint.server.eligible(peer, now)
+        self.server.eligible(peer, now)
     }
 
     /// Asks the node's directory whether an inbound connection of the peer may be accepted at the
@@ -74,7 +74,7 @@ impl<C: PublicKey> Node<C> {
         ensures { IsStepped C.cmp (Command.Acceptable peer.now now) (Reply.Acceptable result)
             self.now self.now }
     {
-        self.endpoint.server.acceptable(peer, now)
+        self.server.acceptable(peer, now)
     }
 
     /// Asks the node's directory how many peers have a record, not counting the local node, as
@@ -86,6 +86,6 @@ impl<C: PublicKey> Node<C> {
     pub fn tracked(&self) -> usize
         ensures { IsStepped C.cmp Command.Tracked (Reply.Tracked result) self.now self.now }
     {
-        self.endpoint.server.tracked()
+        self.server.tracked()
     }
 }

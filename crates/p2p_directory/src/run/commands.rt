@@ -1,7 +1,7 @@
 //! Commands and their replies.
 
 ghost use Rattle.std.specs.Prelude.{◌≡◌};
-ghost use Rattle.p2p_directory.specs.Private.Serving.{reserved_peer, named_peer};
+ghost use Rattle.p2p_directory.specs.Private.Serving.{reserved_peer};
 
 use p2p_discovery::codec::PublicKey;
 use p2p_discovery::discovery::{BitVec, Info};
@@ -136,16 +136,6 @@ impl<C: PublicKey> Command<C> {
             | Command::Acceptable { .. }
             | Command::Dialable(_)
             | Command::Tracked => None,
-        }
-    }
-
-    // The peer that the command of a run may reserve or release, if there is one.
-    pub(crate) fn named_peer(&self) -> Option<C>
-        ensures { result ≡ named_peer self.now }
-    {
-        match self {
-            Command::Release(peer) => Some(*peer),
-            command => command.reserved_peer(),
         }
     }
 }

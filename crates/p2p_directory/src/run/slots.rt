@@ -14,7 +14,8 @@ ghost use Rattle.p2p_directory.specs.Held.{held_of};
 ghost use Rattle.p2p_tracker.specs.Calls.{may_reserve};
 ghost use Rattle.p2p_directory.specs.Run.{call_of};
 ghost use Rattle.p2p_directory.specs.Private.Serving.{has_slot_for, reserved_peer};
-ghost use Rattle.p2p_directory.specs.Private.Slots.{begins_full, has_slot, held_in, is_named, slot_of};
+ghost use Rattle.p2p_directory.specs.Nodes.{is_named};
+ghost use Rattle.p2p_directory.specs.Private.Slots.{begins_full, has_slot, held_in, slot_of};
 ghost use Rattle.p2p_directory.specs.Private.Slots.{AreSlots};
 
 use crate::run::commands::Command;

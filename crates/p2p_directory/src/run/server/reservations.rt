@@ -1,12 +1,13 @@
-//! Slots that are made for one command and removed if they are empty after it.
+//! One command with a slot that is made for it, and removed if it is empty after it.
 
 ghost use Rattle.std.specs.Prelude.{◌≡◌, true, false, OnOk, OnErr, Some, ◌||◌};
 ghost use Rattle.p2p_tracker.specs.Calls.{may_reserve};
 ghost use Rattle.p2p_directory.specs.Run.{call_of, was_made};
 ghost use Rattle.p2p_directory.specs.Private.Serving.{has_slot_for, reserved_peer, IsServed};
 ghost use Rattle.p2p_directory.specs.Private.Serving.{IsSteppedAlone};
-ghost use Rattle.p2p_directory.specs.Private.Slots.{has_slot, held_in, is_named};
-ghost use Rattle.p2p_directory.specs.Private.Slots.{AreSlots, KeepsRoom};
+ghost use Rattle.p2p_directory.specs.Nodes.{is_named, named_peer};
+ghost use Rattle.p2p_directory.specs.Private.Slots.{has_slot, held_in};
+ghost use Rattle.p2p_directory.specs.Private.Slots.{AreSlots, KeepsSlots};
 
 use crate::run::commands::{Command, Reply};
 use crate::run::server::Server;
@@ -34,17 +35,23 @@ impl<C: PublicKey> Server<C> {
         self.slots.make_for(command)
     }
 
-    /// Removes the slot that the server made for the reservation of the peer if it is empty. It
-    /// doesn't allocate.
-    pub fn drop_room(&mut self, peer: Option<C>)
-        ensures room { KeepsRoom C.cmp peer self.old.slots self.new.slots }
-        ensures directory { self.new.directory ≡ self.old.directory }
-        ensures held { (q : C) →
+    /// Serves one command by the server's directory, with a slot made for the reservation that it may
+    /// be granted, which stays only if something is held in it.
+    pub fn step(&mut self, command: Command<C>) -> Reply<C>
+        ensures stepped { IsSteppedAlone C.cmp command result self.old self.new }
+        ensures directory { was_made result ≡ false → self.new.directory ≡ self.old.directory }
+        ensures held { was_made result ≡ false → (q : C) →
             held_in C.cmp self.new.slots q ≡ held_in C.cmp self.old.slots q }
+        ensures room { KeepsSlots C.cmp (named_peer command) self.old.slots self.new.slots }
         ensures ordered { AreSlots C.cmp self.new.slots }
     {
-        if let Some(peer) = peer {
-            self.slots.drop_empty(&peer);
+        // For the proof: the slots are in order.
+        let _slots = &self.slots;
+        match command {
+            Command::Dial { peer, now, draw } => self.dial_slot(&peer, now, draw),
+            Command::Listen { peer, now, draw } => self.listen_slot(&peer, now, draw),
+            Command::Release(peer) => self.release_slot(&peer),
+            command => self.serve(command),
         }
     }
 
@@ -56,7 +63,7 @@ impl<C: PublicKey> Server<C> {
         ensures directory { was_made result ≡ false → self.new.directory ≡ self.old.directory }
         ensures held { was_made result ≡ false → (q : C) →
             held_in C.cmp self.new.slots q ≡ held_in C.cmp self.old.slots q }
-        ensures room { KeepsRoom C.cmp (Some peer.now) self.old.slots self.new.slots }
+        ensures room { KeepsSlots C.cmp (Some peer.now) self.old.slots self.new.slots }
         ensures ordered { AreSlots C.cmp self.new.slots }
     {
         if let Err(AllocError) = self.slots.make(*peer) {
@@ -82,7 +89,7 @@ impl<C: PublicKey> Server<C> {
         ensures directory { was_made result ≡ false → self.new.directory ≡ self.old.directory }
         ensures held { was_made result ≡ false → (q : C) →
             held_in C.cmp self.new.slots q ≡ held_in C.cmp self.old.slots q }
-        ensures room { KeepsRoom C.cmp (Some peer.now) self.old.slots self.new.slots }
+        ensures room { KeepsSlots C.cmp (Some peer.now) self.old.slots self.new.slots }
         ensures ordered { AreSlots C.cmp self.new.slots }
     {
         if let Err(AllocError) = self.slots.make(*peer) {
@@ -106,7 +113,7 @@ impl<C: PublicKey> Server<C> {
         ensures directory { was_made result ≡ false → self.new.directory ≡ self.old.directory }
         ensures held { was_made result ≡ false → (q : C) →
             held_in C.cmp self.new.slots q ≡ held_in C.cmp self.old.slots q }
-        ensures room { KeepsRoom C.cmp (Some peer.now) self.old.slots self.new.slots }
+        ensures room { KeepsSlots C.cmp (Some peer.now) self.old.slots self.new.slots }
         ensures ordered { AreSlots C.cmp self.new.slots }
     {
         match self.slots.remove(peer) {

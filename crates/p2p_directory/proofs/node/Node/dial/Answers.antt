@@ -1,22 +1,28 @@
+use Rattle.std.proofs.Common.{Some}
 use Rattle.p2p_directory.specs.declared.run.commands.Command.TheVariants as command
-use Rattle.p2p_directory.proofs.Nodes.Standing.{same_node, step_alone, still}
+use Rattle.p2p_directory.proofs.Nodes.Standing.{same_node, step_alone, still, keeps_room}
 use Rattle.p2p_directory.proofs.node.Node.dial.Goals as goal
 
-pub invariant_of-self-inside : goal.invariant_of-self-inside
-invariant_of-self-inside g c = (
-  c.self-inside.invariant.0,
+pub invariant_of-self : goal.invariant_of-self
+invariant_of-self g c = (
+  c.self.invariant.0,
   c.dial_slot.ensures.ordered,
-  still g.C.Ord.cmp (command.Dial c.args.peer.now c.args.now c.args.draw) c.dial_slot.result _ _ c.self-inside.invariant.2
-      (step_alone g.met.C.Ord.total g.met.C.PublicKey.exact c.self-inside.inside.0.0.payload c.self-inside.inside.0.0.verifier (command.Dial c.args.peer.now c.args.now c.args.draw) c.dial_slot.result
-      c.self-inside.inside.0.0.server c.dial_slot.new.self c.self-inside.invariant.1 c.dial_slot.ensures.ordered c.dial_slot.ensures.stepped),
+  still g.C.Ord.cmp (command.Dial c.args.peer.now c.args.now c.args.draw) c.dial_slot.result _ _ c.self.invariant.2
+      (step_alone g.met.C.Ord.total g.met.C.PublicKey.exact c.self.inside.payload c.self.inside.verifier (command.Dial c.args.peer.now c.args.now c.args.draw) c.dial_slot.result
+      c.self.inside.server c.dial_slot.new.self c.self.invariant.1 c.dial_slot.ensures.ordered c.dial_slot.ensures.stepped),
 )
 
 pub returns-clause-stepped : goal.returns-clause-stepped
-returns-clause-stepped g c = rw (← c.self.view_is, ← c.self-inside.view_is)
-    (step_alone g.met.C.Ord.total g.met.C.PublicKey.exact c.self-inside.inside.0.0.payload c.self-inside.inside.0.0.verifier (command.Dial c.args.peer.now c.args.now c.args.draw) c.dial_slot.result
-    c.self-inside.inside.0.0.server c.dial_slot.new.self c.self-inside.invariant.1 c.dial_slot.ensures.ordered c.dial_slot.ensures.stepped)
+returns-clause-stepped g c = rw (← c.self.view_is)
+    (step_alone g.met.C.Ord.total g.met.C.PublicKey.exact c.self.inside.payload c.self.inside.verifier (command.Dial c.args.peer.now c.args.now c.args.draw) c.dial_slot.result
+    c.self.inside.server c.dial_slot.new.self c.self.invariant.1 c.dial_slot.ensures.ordered c.dial_slot.ensures.stepped)
 
 pub returns-clause-unchanged : goal.returns-clause-unchanged
-returns-clause-unchanged g c = rw (← c.self.view_is, ← c.self-inside.view_is) (λ no.
-    same_node g.met.C.Ord.total g.met.C.PublicKey.exact c.self-inside.inside.0.0.payload c.self-inside.inside.0.0.verifier
-    c.self-inside.inside.0.0.server c.dial_slot.new.self c.self-inside.invariant.1 c.dial_slot.ensures.ordered (c.dial_slot.ensures.directory no) (c.dial_slot.ensures.held no))
+returns-clause-unchanged g c = rw (← c.self.view_is) (λ no.
+    same_node g.met.C.Ord.total g.met.C.PublicKey.exact c.self.inside.payload c.self.inside.verifier
+    c.self.inside.server c.dial_slot.new.self c.self.invariant.1 c.dial_slot.ensures.ordered (c.dial_slot.ensures.directory no) (c.dial_slot.ensures.held no))
+
+pub returns-clause-room : goal.returns-clause-room
+returns-clause-room g c = rw (← c.self.view_is)
+    (keeps_room g.met.C.Ord.total g.met.C.PublicKey.exact c.self.inside.payload c.self.inside.verifier (Some c.args.peer.now)
+    c.self.inside.server c.dial_slot.new.self c.dial_slot.ensures.ordered c.dial_slot.ensures.room)

@@ -3,5 +3,5 @@ use Rattle.p2p_directory.proofs.Reservations.Slots.{held_is}
 use Rattle.p2p_directory.proofs.node.Node.held.Goals as goal
 
 pub returns : goal.returns
-returns g c = rw (← c.self.view_is, ← c.self-inside.view_is)
-    (c.held.ensures ∙ sym (held_is g.met.C.Ord.total g.met.C.PublicKey.exact c.self-inside.inside.0.0.server.slots c.self-inside.invariant.1 c.args.peer.now))
+returns g c = rw (← c.self.view_is)
+    (c.held.ensures ∙ sym (held_is g.met.C.Ord.total g.met.C.PublicKey.exact c.self.inside.server.slots c.self.invariant.1 c.args.peer.now))

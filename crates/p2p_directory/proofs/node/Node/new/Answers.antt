@@ -1,13 +1,12 @@
-use Rattle.std.proofs.Common.{◌≡◌, List, [], Option, refl, sym, ap, subst, ◌∙◌, rules}
+use Rattle.std.proofs.Common.{◌≡◌, [], refl, sym, ap, subst, ◌∙◌, rules}
 use Rattle.std.specs.declared.cmp.Ordering.{Ordering}
 use Rattle.p2p_discovery.proofs.Sorting.{sorted_nil}
-use Rattle.p2p_tracker.specs.declared.directory.Metadata.{Metadata}
-use Rattle.p2p_tracker.specs.Seen.{DirectoryView}
 use Rattle.p2p_directory.specs.declared.node.setup.Setup.{Setup}
 use Rattle.p2p_directory.specs.Held.{held_of}
 use Rattle.p2p_directory.specs.Nodes.{NodeStandsAt, made_of}
 use Rattle.p2p_directory.specs.Run.{settings, world_after}
-use Rattle.p2p_directory.specs.Private.Serving.{ServerView, StandsAt}
+use Rattle.std.specs.Map.{keys_of}
+use Rattle.p2p_directory.specs.Private.Serving.{ServerView, StandsAt, node_at}
 use Rattle.p2p_directory.specs.Private.Slots.{held_in, contents, AreSlots}
 use Rattle.p2p_directory.proofs.Nodes.Standing.{of_server}
 use Rattle.p2p_directory.proofs.Reservations.Served.{are_held, stands_at_start}
@@ -29,38 +28,32 @@ new-server-requires g c =
       ordered = subst (AreSlots g.C.Ord.cmp) (sym c.new.ensures) (no_slots g.C.Ord.cmp);
     }
 
-pub new-requires-2-clause-ordered : goal.new-requires-2-clause-ordered
-new-requires-2-clause-ordered g c = rw c.new-server.ensures (subst (AreSlots g.C.Ord.cmp) (sym c.new.ensures) (no_slots g.C.Ord.cmp))
-
 -- it stands where its server does, and no call was accepted
-at_start : {C S : Type 0} (cmp : C → C → Ordering) (given : Setup C S) (d : DirectoryView C S) (slots : List (C × Option (Metadata C S))) →
-    slots ≡ [] → StandsAt (settings cmp given.bootstrappers.items given.myself given.cfg) [] (record { directory = d; slots = slots }) →
-    NodeStandsAt (made_of cmp given) [] (record {
-      directory = d;
-      held = contents slots;
-      limits = (made_of cmp given).limits;
-      verifier = (made_of cmp given).verifier;
-    })
-at_start cmp given d slots none at =
+at_start : {C S : Type 0} (cmp : C → C → Ordering) (given : Setup C S) (v : ServerView C S) →
+    v.slots ≡ [] → StandsAt (settings cmp given.bootstrappers.items given.myself given.cfg) [] v →
+    NodeStandsAt (made_of cmp given) [] (node_at (made_of cmp given).limits (made_of cmp given).verifier v)
+at_start cmp given v none at =
     let m = made_of cmp given in
-    of_server m [] (record { directory = d; held = contents slots; limits = m.limits; verifier = m.verifier })
-    (record { directory = d; slots = slots }) refl
+    of_server m [] (node_at m.limits m.verifier v) v refl
     (λ q. ap (λ slots. held_of cmp (contents slots) q) none ∙ sym (ap (λ slots. held_in cmp slots q) none)) refl refl at
 
-pub new-requires-2-clause-stands : goal.new-requires-2-clause-stands
-new-requires-2-clause-stands g c =
+pub invariant_of-result : goal.invariant_of-result
+invariant_of-result g c =
     let cmp = g.C.Ord.cmp in
     let s = settings cmp c.args.setup.bootstrappers.items c.args.setup.myself c.args.setup.cfg in
     let made = c.in_ok-directory.ensures in
     let v : ServerView g.row.C.Denot g.row.C-Signature.Denot = record { directory = c.in_ok-directory.directory; slots = c.new.result } in
     let at = stands_at_start s v (search rules) made.config made.sets made.blocks made.cooldowns made.records
     (λ q. ap (λ slots. held_in cmp slots q) c.new.ensures) in
-    record {
-      given = c.args.setup;
-      calls = [];
-      stands = rw (c.new-server.ensures, c.verifier-verifier.ensures)
-          (at_start cmp c.args.setup c.in_ok-directory.directory c.new.result c.new.ensures at);
-    }
+    (
+      c.requires.bits,
+      rw c.new-server.ensures (subst (AreSlots cmp) (sym c.new.ensures) (no_slots cmp)),
+      record {
+        given = c.args.setup;
+        calls = [];
+        stands = rw (c.new-server.ensures, c.verifier-verifier.ensures) (at_start cmp c.args.setup v c.new.ensures at);
+      },
+    )
 
 pub returns-clause-stands : goal.returns-clause-stands
 returns-clause-stands g c =
@@ -70,5 +63,7 @@ returns-clause-stands g c =
     let v : ServerView g.row.C.Denot g.row.C-Signature.Denot = record { directory = c.in_ok-directory.directory; slots = c.new.result } in
     let at = stands_at_start s v (search rules) made.config made.sets made.blocks made.cooldowns made.records
     (λ q. ap (λ slots. held_in cmp slots q) c.new.ensures) in
-    rw (c.new-2.ensures, c.new-server.ensures, c.verifier-verifier.ensures)
-    (at_start cmp c.args.setup c.in_ok-directory.directory c.new.result c.new.ensures at)
+    rw (c.new-server.ensures, c.verifier-verifier.ensures) (at_start cmp c.args.setup v c.new.ensures at)
+
+pub returns-clause-room : goal.returns-clause-room
+returns-clause-room g c = rw c.new-server.ensures (ap keys_of c.new.ensures)

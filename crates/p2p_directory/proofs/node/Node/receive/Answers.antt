@@ -3,18 +3,17 @@ use Rattle.std.specs.Duration.{as_nanos}
 use Rattle.p2p_directory.specs.Nodes.{made_of, standing_in}
 use Rattle.p2p_directory.specs.Received.{frame_may_want_memory}
 use Rattle.p2p_directory.specs.Run.{world_after}
-use Rattle.p2p_directory.specs.Private.Endpoints.{node_of}
 use Rattle.p2p_directory.proofs.LawsOfGossip.Late
 use Rattle.p2p_directory.proofs.Nodes.Worlds.{received_in}
 use Rattle.p2p_directory.proofs.Nodes.ReadBack.{wire_in}
 use Rattle.p2p_directory.proofs.node.Node.receive.Goals as goal
 
 pub returns-clause-received : goal.returns-clause-received
-returns-clause-received g c = rw (← c.self.view_is) (λ given calls at.
+returns-clause-received g c = λ given calls at.
     received_in (made_of g.C.Ord.cmp given)
     (wire_in g.C.PublicKey.verifies g.C.FixedBytes g.C.Signature.FixedBytes)
-    calls (node_of c.self.inside.endpoint) at given.cfg.max_sets.ok c.args.frame (as_nanos c.args.now)
-    c.answer.result (node_of c.answer.new.self) c.answer.ensures.seen)
+    calls c.args.self.now at given.cfg.max_sets.ok c.args.frame (as_nanos c.args.now)
+    c.answer.result c.answer.new.self c.answer.ensures.seen
 
 pub returns-clause-late : goal.returns-clause-late
 returns-clause-late g c = λ given calls at.

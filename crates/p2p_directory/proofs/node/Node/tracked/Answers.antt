@@ -4,6 +4,6 @@ use Rattle.p2p_directory.proofs.Nodes.Standing.{step_of}
 use Rattle.p2p_directory.proofs.node.Node.tracked.Goals as goal
 
 pub returns : goal.returns
-returns g c = rw (← c.self.view_is, ← c.self-inside.view_is)
-    (step_of g.met.C.Ord.total g.met.C.PublicKey.exact c.self-inside.inside.0.0.payload c.self-inside.inside.0.0.verifier command.Tracked (reply.Tracked c.tracked.result)
-    c.self-inside.inside.0.0.server c.self-inside.inside.0.0.server c.self-inside.invariant.1 c.self-inside.invariant.1 c.tracked.ensures)
+returns g c = rw (← c.self.view_is)
+    (step_of g.met.C.Ord.total g.met.C.PublicKey.exact c.self.inside.payload c.self.inside.verifier command.Tracked (reply.Tracked c.tracked.result)
+    c.self.inside.server c.self.inside.server c.self.invariant.1 c.self.invariant.1 c.tracked.ensures)

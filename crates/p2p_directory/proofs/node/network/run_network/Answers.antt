@@ -5,9 +5,9 @@ use Rattle.std.specs.Prelude.{OnOk, slice_index_or}
 use Rattle.std.specs.List.{All}
 use Rattle.std.specs.Result.{is_err}
 use Rattle.p2p_directory.specs.Network.{AreNetworkAnswers, StandAfter, done_after, node_made}
-use Rattle.p2p_directory.specs.Private.Networks.{HasRoomFor, KeepSlots, nodes_of}
+use Rattle.p2p_directory.specs.Private.Networks.{HasRoomFor, KeepSlots}
 use Rattle.p2p_directory.proofs.Nodes.NetworkRuns.{one_more, reply_push}
-use Rattle.p2p_directory.proofs.Nodes.Networks.{room_for_stays}
+use Rattle.p2p_directory.proofs.Nodes.Networks.{room_for_stays, same_stand}
 use Rattle.p2p_tracker.proofs.SetsAndRecords.Moved.{item_left, item_moved, item_has, all_moved}
 use Rattle.std.specs.declared.cmp.Ordering.{Ordering}
 use Rattle.std.proofs.lemmas.Bool.{ltb-true}
@@ -26,22 +26,23 @@ went_well (Result.Err v) e h = absurd (cc)
 pub loop-command-init : goal.loop-command-init
 loop-command-init g c =
     let wire = wire_in g.C.PublicKey.verifies g.C.FixedBytes g.C.Signature.FixedBytes in
-    let same = with_items_is c.endpoints.inside.endpoints c.make_room.new.endpoints
-    (omega (arith, c.make_room.auto.endpoints, c.deref_mut.ensures.len)) in
+    let same = with_items_is c.nodes.inside.nodes c.make_room.new.nodes
+    (omega (arith, c.make_room.auto.nodes, c.deref_mut.ensures.len)) in
     record {
       rest = c.into_iter-command-iterator.ensures.into_iter_gives.0;
       answers = λ other. rw c.in_ok-replies.ensures.items tt;
       written = λ other. tt;
       carried = λ other. tt;
-      stand = λ other. subst (StandAfter wire (length c.args.setups.items)
-          (node_made g.C.Ord.cmp other c.args.setups.items) [])
-          (sym c.endpoints.view_is ∙ ap (λ es. nodes_of es) (sym c.deref_mut.ensures.value)
-          ∙ sym c.make_room.ensures.same ∙ ap (λ es. nodes_of es) (sym same))
-          (c.in_ok-endpoints.ensures.stand other);
+      stand = λ other. let size = length c.args.setups.items in
+          let node = node_made g.C.Ord.cmp other c.args.setups.items in
+          subst (StandAfter wire size node []) (sym same)
+          (same_stand wire size node [] c.make_room.ensures.same
+          (subst (StandAfter wire size node []) (sym c.nodes.view_is ∙ sym c.deref_mut.ensures.value)
+          (c.in_ok-nodes.ensures.stand other)));
       replies = rw c.in_ok-replies.ensures.items refl;
       room_for_replies = omega (arith, c.in_ok-replies.ensures.exact, c.len.ensures);
       slots = subst (λ es. All (HasRoomFor g.C.Ord.cmp es) c.args.commands.items) (sym same)
-          (subst (All (HasRoomFor g.C.Ord.cmp c.make_room.new.endpoints)) c.deref.ensures.value
+          (subst (All (HasRoomFor g.C.Ord.cmp c.make_room.new.nodes)) c.deref.ensures.value
           (went_well c.make_room.result (sym c.is_err.ensures.value ∙ c.if-is_err.false)
           c.make_room.ensures.room));
       count = refl;
@@ -50,7 +51,7 @@ loop-command-init g c =
 pub serve-requires : goal.serve-requires
 serve-requires g c = record {
   room = rw c.deref_mut-in-loop-command.ensures.value
-      (item_has (HasRoomFor g.C.Ord.cmp c.loop-command.endpoints.items) c.loop-command.yielded
+      (item_has (HasRoomFor g.C.Ord.cmp c.loop-command.nodes.items) c.loop-command.yielded
       c.loop-command.command-iterator.rest.items c.next.new.self.rest.items c.args.commands.items
       c.in-Some.command c.loop-command.invariant.rest c.in-Some.ensures.steps.0
       c.loop-command.invariant.slots);
@@ -75,20 +76,20 @@ loop-command-preserved g c =
     let setups = c.args.setups.items in
     let pushed = c.push_reserved.ensures in
     let value = c.deref_mut-in-loop-command.ensures.value in
-    let es = c.loop-command.endpoints.items in
-    let es2 = c.serve.new.endpoints in
-    let same = with_items_is c.loop-command.endpoints es2 (omega (
+    let es = c.loop-command.nodes.items in
+    let es2 = c.serve.new.nodes in
+    let same = with_items_is c.loop-command.nodes es2 (omega (
       arith,
-      c.serve.auto.endpoints,
+      c.serve.auto.nodes,
       c.deref_mut-in-loop-command.ensures.len,
     )) in
-    let inside : length es2 ≡ length es = omega (arith, c.serve.auto.endpoints, ap length value) in
+    let inside : length es2 ≡ length es = omega (arith, c.serve.auto.nodes, ap length value) in
     record {
       rest = item_moved xs c.loop-command.command-iterator.rest.items c.next.new.self.rest.items
           c.args.commands.items x kept.rest c.in-Some.ensures.steps.0;
       answers = λ other. let size = length setups in
           let node = node_made g.C.Ord.cmp other setups in
-          rw pushed.items (one_more wire size node xs rs x r (nodes_of es2) (kept.answers other)
+          rw pushed.items (one_more wire size node xs rs x r es2 (kept.answers other)
           (c.serve.ensures.answered setups (done_after wire size node [] xs rs) other
           (rw value (kept.stand other)))).0;
       written = λ other. let size = length setups in
@@ -106,9 +107,9 @@ loop-command-preserved g c =
       stand = λ other. let size = length setups in
           let node = node_made g.C.Ord.cmp other setups in
           subst (λ es. StandAfter wire size node
-          (done_after wire size node [] (xs ++ x ∷ []) c.push_reserved.new.self.items) (nodes_of es))
+          (done_after wire size node [] (xs ++ x ∷ []) c.push_reserved.new.self.items) es)
           (sym same)
-          (rw pushed.items (one_more wire size node xs rs x r (nodes_of es2) (kept.answers other)
+          (rw pushed.items (one_more wire size node xs rs x r es2 (kept.answers other)
           (c.serve.ensures.answered setups (done_after wire size node [] xs rs) other
           (rw value (kept.stand other)))).1);
       replies = ap length pushed.items
@@ -123,15 +124,15 @@ loop-command-preserved g c =
 
 pub invariant_of-result : goal.invariant_of-result
 invariant_of-result g c =
-    let same = with_items_is c.endpoints.inside.endpoints c.make_room.new.endpoints
-    (omega (arith, c.make_room.auto.endpoints, c.deref_mut.ensures.len)) in (
-      c.endpoints.invariant.0,
+    let same = with_items_is c.nodes.inside.nodes c.make_room.new.nodes
+    (omega (arith, c.make_room.auto.nodes, c.deref_mut.ensures.len)) in (
+      c.nodes.invariant.0,
       omega (
         arith,
-        c.endpoints.invariant.1,
+        c.nodes.invariant.1,
         c.loop-command.invariant.count,
         ap length same,
-        c.make_room.auto.endpoints,
+        c.make_room.auto.nodes,
         ap length c.deref_mut.ensures.value,
       ),
     )
@@ -157,7 +158,7 @@ returns-clause-stand g c = λ other.
     let node = node_made g.C.Ord.cmp other c.args.setups.items in
     subst (λ xs. StandAfter wire size node
     (done_after wire size node [] xs c.loop-command.replies.items)
-    (nodes_of c.loop-command.endpoints.items)) (all_taken g c) (c.loop-command.invariant.stand other)
+    c.loop-command.nodes.items) (all_taken g c) (c.loop-command.invariant.stand other)
 
 -- WHAT THE REPLIES SAY OF EACH OTHER
 
@@ -189,8 +190,8 @@ returns-clause-of_each_reply g c = λ other.
     g.C.PublicKey.verifies size node g.C.Ord.cmp g.met.C.Ord.total g.met.C.PublicKey.exact
     (are_made wire g.C.Ord.cmp other setups)
     (λ i there. c.requires.bits i other (ltb-true i size there))
-    (λ i there. (c.in_ok-endpoints.ensures.own i other (ltb-true i size there)).0)
-    (λ i there. (c.in_ok-endpoints.ensures.own i other (ltb-true i size there)).1)
+    (λ i there. (c.in_ok-nodes.ensures.own i other (ltb-true i size there)).0)
+    (λ i there. (c.in_ok-nodes.ensures.own i other (ltb-true i size there)).1)
     c.args.commands.items rs (returns-clause-answers g c other)
     (subst (λ xs. networks.OfEachReply wire size node (networks.CarriesExchange wire size node)
     [] xs rs) (all_taken g c) (c.loop-command.invariant.carried other))
@@ -205,7 +206,7 @@ room_left len cap new old is room = omega (arith, length-take len (new ++ drop (
 
 pub invariant_of-finish : goal.invariant_of-finish
 invariant_of-finish g c = (
-  c.endpoints.invariant.0,
-  room_left c.endpoints.inside.endpoints.len _ c.make_room.new.endpoints
-      c.endpoints.inside.endpoints.items c.endpoints.inside.endpoints.ok.0 c.endpoints.invariant.1,
+  c.nodes.invariant.0,
+  room_left c.nodes.inside.nodes.len _ c.make_room.new.nodes
+      c.nodes.inside.nodes.items c.nodes.inside.nodes.ok.0 c.nodes.invariant.1,
 )

@@ -1,7 +1,7 @@
 use Rattle.std.proofs.Common.{◌≡◌, ◌++◌, [], length, vec_capacity}
 use Rattle.std.specs.List.{All}
 use Rattle.p2p_directory.specs.Network.{OfNetwork, AreNetworkAnswers, StandAfter, done_after}
-use Rattle.p2p_directory.specs.Private.Networks.{nodes_of, HasRoomFor}
+use Rattle.p2p_directory.specs.Private.Networks.{HasRoomFor}
 use Rattle.p2p_directory.specs.Laws.Network.{AreWritten, OfEachReply, CarriesExchange}
 use Rattle.p2p_directory.proofs.Nodes.ReadBack.{wire_in}
 use Rattle.p2p_directory.proofs.node.network.run_network.Given as goal
@@ -22,9 +22,9 @@ invariant-loop-command g l =
           OfEachReply wire size node (CarriesExchange wire size node) [] l.yielded l.replies.items);
       stand : OfNetwork g.C.Ord.cmp l.fn.setups.items (λ size node.
           StandAfter wire size node (done_after wire size node [] l.yielded l.replies.items)
-          (nodes_of l.endpoints.items));
+          l.nodes.items);
       replies : length l.replies.items ≡ length l.yielded;
       room_for_replies : vec_capacity l.replies ≡ length l.fn.commands.items;
-      slots : All (HasRoomFor g.C.Ord.cmp l.endpoints.items) l.fn.commands.items;
-      count : length l.endpoints.items ≡ length l.initial.endpoints.items;
+      slots : All (HasRoomFor g.C.Ord.cmp l.nodes.items) l.fn.commands.items;
+      count : length l.nodes.items ≡ length l.initial.nodes.items;
     }

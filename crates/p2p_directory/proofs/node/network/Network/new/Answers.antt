@@ -10,8 +10,8 @@ use Rattle.p2p_directory.proofs.node.network.Network.new.Goals as goal
 pub loop-setup-init : goal.loop-setup-init
 loop-setup-init g c = record {
   rest = c.into_iter-setup-iterator.ensures.into_iter_gives.0;
-  count = ap length c.in_ok-endpoints.ensures.items;
-  room_for_endpoints = omega (arith, c.in_ok-endpoints.ensures.exact, c.len-2.ensures);
+  count = ap length c.in_ok-nodes.ensures.items;
+  room_for_nodes = omega (arith, c.in_ok-nodes.ensures.exact, c.len-2.ensures);
   stand = λ k a b lt. absurd (omega (arith, lt));
   own = λ k d lt. absurd (omega (arith, lt));
 }
@@ -22,21 +22,21 @@ push_reserved-requires g c =
     let more = item_left c.loop-setup.yielded c.loop-setup.setup-iterator.rest.items
     c.next.new.self.rest.items c.args.setups.items c.in-Some.setup kept.rest
     c.in-Some.ensures.steps.0 in
-    omega (arith, more, c.loop-setup.endpoints.ok, kept.count, kept.room_for_endpoints)
+    omega (arith, more, c.loop-setup.nodes.ok, kept.count, kept.room_for_nodes)
 
 pub loop-setup-preserved : goal.loop-setup-preserved
 loop-setup-preserved g c =
     let kept = c.loop-setup.invariant in
     let xs = c.loop-setup.yielded in
     let x = c.in-Some.setup in
-    let es = c.loop-setup.endpoints.items in
-    let e = c.in-Ok.end in
+    let es = c.loop-setup.nodes.items in
+    let e = c.in-Ok.node in
     let pushed = c.push_reserved.ensures in
     record {
       rest = item_moved xs c.loop-setup.setup-iterator.rest.items c.next.new.self.rest.items
           c.args.setups.items x kept.rest c.in-Some.ensures.steps.0;
       count = ap length pushed.items ∙ omega (arith, length_push es e, length_push xs x, kept.count);
-      room_for_endpoints = pushed.capacity ∙ kept.room_for_endpoints;
+      room_for_nodes = pushed.capacity ∙ kept.room_for_nodes;
       stand = rw pushed.items (both_push (IsNew g.C.Ord.cmp) xs es x e kept.count kept.stand
           c.in-Ok.ensures.stands);
       own = all_push (λ s. IsInfo s.myself × IsKeyed g.C.FixedBytes.IsValue
@@ -81,7 +81,7 @@ all_taken g c =
 pub returns-clause-stand : goal.returns-clause-stand
 returns-clause-stand g c = λ other.
     let kept = c.loop-setup.invariant in
-    let es = c.loop-setup.endpoints.items in
+    let es = c.loop-setup.nodes.items in
     stand_at_start g.C.Ord.cmp
     (wire_in g.C.PublicKey.verifies g.C.FixedBytes g.C.Signature.FixedBytes)
     c.args.setups.items es other (kept.count ∙ ap length (all_taken g c))

@@ -7,15 +7,15 @@ use Rattle.p2p_directory.proofs.node.network.Network.replace.Goals as goal
 pub returns-clause-ok : goal.returns-clause-ok
 returns-clause-ok g c = rw (← c.self.view_is) (
     let i = c.args.node in
-    let end = c.in_ok-end.end in
+    let end = c.in_ok-new.new in
     let old = c.swap_at-old.result in
     let same = c.deref_mut.ensures.value in
-    let there : i < length c.self.inside.endpoints.items =
-    omega (arith, c.if-node-len.false, c.len.ensures, c.self.inside.endpoints.ok) in
-    replaced_at g.C.Ord.cmp c.args.setup c.self.inside.endpoints.items _ end
-    c.in_ok-end.ensures.stands i old c.finish.result there
-    (with_items_is c.self.inside.endpoints c.swap_at-old.new.endpoints
-    (omega (arith, c.swap_at-old.auto.endpoints, c.deref_mut.ensures.len))
+    let there : i < length c.self.inside.nodes.items =
+    omega (arith, c.if-node-len.false, c.len.ensures, c.self.inside.nodes.ok) in
+    replaced_at g.C.Ord.cmp c.args.setup c.self.inside.nodes.items _ end
+    c.in_ok-new.ensures.stands i old c.finish.result there
+    (with_items_is c.self.inside.nodes c.swap_at-old.new.nodes
+    (omega (arith, c.swap_at-old.auto.nodes, c.deref_mut.ensures.len))
     ∙ c.swap_at-old.ensures.rest ∙ ap (λ es. slice_set es i end) same)
     (c.swap_at-old.ensures.old ∙ ap (λ es. slice_index_or es i old) same) c.finish.ensures)
 
@@ -27,6 +27,6 @@ room_left len cap new old is room = omega (arith, length-take len (new ++ drop (
 pub invariant_of-self : goal.invariant_of-self
 invariant_of-self g c = (
   c.self.invariant.0,
-  room_left c.self.inside.endpoints.len _ c.swap_at-old.new.endpoints
-      c.self.inside.endpoints.items c.self.inside.endpoints.ok.0 c.self.invariant.1,
+  room_left c.self.inside.nodes.len _ c.swap_at-old.new.nodes
+      c.self.inside.nodes.items c.self.inside.nodes.ok.0 c.self.invariant.1,
 )
