@@ -1,7 +1,8 @@
 -- Serving one command: from wherever the calls accepted before led, the reply is the answer.
-use Rattle.std.specs.Prelude.{◌≡◌, ◌⊎◌, ◌<◌, ◌^◌, Bool, true, List, Option}
+use Rattle.std.specs.Prelude.{◌≡◌, ◌⊎◌, ◌<◌, ◌^◌, Bool, true, false, List, Option}
 use Rattle.std.specs.Option.{option_map_or}
 use Rattle.std.specs.declared.cmp.Ordering.{Ordering}
+use Rattle.std.specs.declared.time.Duration.{Duration}
 use Rattle.p2p_discovery.specs.declared.discovery.Info.{Info}
 use Rattle.p2p_discovery.specs.declared.discovery.PayloadConfig.{PayloadConfig}
 use Rattle.p2p_discovery.specs.declared.types.ingress.Ingress.{Ingress}
@@ -9,6 +10,7 @@ use Rattle.p2p_discovery.specs.Judgement.{Verifier}
 use Rattle.p2p_tracker.specs.declared.directory.Config.{Config}
 use Rattle.p2p_tracker.specs.declared.directory.Metadata.{Metadata}
 use Rattle.p2p_directory.specs.declared.run.commands.Command.{Command}
+use Rattle.p2p_directory.specs.declared.run.commands.Command.TheVariants as command
 use Rattle.p2p_directory.specs.declared.run.commands.Reply.{Reply}
 use Rattle.p2p_directory.specs.declared.run.commands.Reply.TheVariants as reply
 use Rattle.p2p_tracker.specs.Calls.{Settings, Call, may_reserve, reserved_by}
@@ -37,6 +39,17 @@ node_at limits verifier v = record {
 -- the peer that the command may be granted a reservation of, if there is one
 abbrev pub reserved_peer : {C S : Type 0} → Command C S → Option C
 reserved_peer x = reserved_by (call_of x)
+
+-- a dial of p, or a listen
+abbrev pub reserving : {C S : Type 0} → Bool → C → Duration → Duration → Command C S
+reserving true p now draw = command.Dial p now draw
+reserving false p now draw = command.Listen p now draw
+
+-- a reservation was granted, by the reply
+abbrev pub grants : {C S : Type 0} → Reply C S → Bool
+grants (reply.Dial granted) = granted
+grants (reply.Listen granted) = granted
+grants _ = false
 
 -- there is a slot for what the command may be granted
 abbrev pub has_slot_for : {C S : Type 0} → (C → C → Ordering) →

@@ -3,6 +3,7 @@
 ghost use Rattle.std.specs.Prelude.{◌≡◌, false, Some};
 ghost use Rattle.p2p_directory.specs.Run.{was_made};
 ghost use Rattle.p2p_directory.specs.Nodes.{IsSame, IsStepped, KeepsRoom, TearsDownFew};
+ghost use Rattle.p2p_directory.specs.Private.Serving.{reserving};
 ghost use Rattle.p2p_directory.specs.declared.run.commands.Command.{Command};
 ghost use Rattle.p2p_directory.specs.declared.run.commands.Reply.{Reply};
 
@@ -48,7 +49,7 @@ impl<C: PublicKey> Node<C> {
         ensures limits { self.new.limits ≡ self.old.limits }
         ensures verifier { self.new.verifier ≡ self.old.verifier }
     {
-        self.server.dial_slot(peer, now, draw)
+        self.reserve(true, peer, now, draw)
     }
 
     /// Calls the node's directory to reserve an inbound peer at the time `now`, a duration since
@@ -68,7 +69,20 @@ impl<C: PublicKey> Node<C> {
         ensures limits { self.new.limits ≡ self.old.limits }
         ensures verifier { self.new.verifier ≡ self.old.verifier }
     {
-        self.server.listen_slot(peer, now, draw)
+        self.reserve(false, peer, now, draw)
+    }
+
+    // Reserves the peer in the node's directory if that is granted: for a dial if `dialer`, else
+    // inbound.
+    fn reserve(&mut self, dialer: bool, peer: &C, now: Duration, draw: Duration) -> Reply<C>
+        ensures stepped { IsStepped C.cmp (reserving dialer peer.now now draw) result
+            self.old self.new }
+        ensures unchanged { was_made result ≡ false → IsSame self.old self.new }
+        ensures room { KeepsRoom C.cmp (Some peer.now) self.old self.new }
+        ensures limits { self.new.limits ≡ self.old.limits }
+        ensures verifier { self.new.verifier ≡ self.old.verifier }
+    {
+        self.server.reserve_slot(dialer, peer, now, draw)
     }
 
     /// Calls the node's directory to connect the peer if it is reserved, as [`Node::step`] of

@@ -3,7 +3,7 @@
 ghost use Rattle.std.specs.Prelude.{◌≡◌, true, false, None, is_some};
 ghost use Rattle.p2p_directory.specs.Held.{AreHeld};
 ghost use Rattle.p2p_directory.specs.Private.Slots.{has_slot, held_in, AreSlots};
-ghost use Rattle.p2p_directory.specs.Private.Serving.{has_slot_for, IsServed};
+ghost use Rattle.p2p_directory.specs.Private.Serving.{grants, has_slot_for, IsServed};
 ghost use Rattle.p2p_directory.specs.Nodes.{TearsDownFew};
 ghost use Rattle.p2p_directory.specs.Run.{was_made};
 
@@ -108,7 +108,7 @@ impl<C: PublicKey> Server<C> {
         ensures unchanged { was_made result ≡ false → self.new ≡ self.old }
         ensures slots { (q : C) →
             has_slot C.cmp self.new.slots q ≡ has_slot C.cmp self.old.slots q }
-        ensures granted { result ≡ Reply.Dial true →
+        ensures granted { grants result ≡ true →
             is_some (held_in C.cmp self.new.slots peer.now) ≡ true }
         ensures ordered { AreSlots C.cmp self.new.slots }
     {
@@ -130,7 +130,7 @@ impl<C: PublicKey> Server<C> {
         ensures unchanged { was_made result ≡ false → self.new ≡ self.old }
         ensures slots { (q : C) →
             has_slot C.cmp self.new.slots q ≡ has_slot C.cmp self.old.slots q }
-        ensures granted { result ≡ Reply.Listen true →
+        ensures granted { grants result ≡ true →
             is_some (held_in C.cmp self.new.slots peer.now) ≡ true }
         ensures ordered { AreSlots C.cmp self.new.slots }
     {

@@ -1,9 +1,9 @@
 //! One command with a slot that is made for it, and removed if it is empty after it.
 
-ghost use Rattle.std.specs.Prelude.{◌≡◌, true, false, OnOk, OnErr, Some, ◌||◌};
+ghost use Rattle.std.specs.Prelude.{◌≡◌, true, false, is_some, OnOk, OnErr, Some, ◌||◌};
 ghost use Rattle.p2p_tracker.specs.Calls.{may_reserve};
 ghost use Rattle.p2p_directory.specs.Run.{call_of, was_made};
-ghost use Rattle.p2p_directory.specs.Private.Serving.{has_slot_for, reserved_peer, IsServed};
+ghost use Rattle.p2p_directory.specs.Private.Serving.{grants, has_slot_for, reserved_peer, reserving, IsServed};
 ghost use Rattle.p2p_directory.specs.Private.Serving.{IsSteppedAlone};
 ghost use Rattle.p2p_directory.specs.Nodes.{is_named, named_peer};
 ghost use Rattle.p2p_directory.specs.Private.Slots.{has_slot, held_in};
@@ -48,17 +48,23 @@ impl<C: PublicKey> Server<C> {
         // For the proof: the slots are in order.
         let _slots = &self.slots;
         match command {
-            Command::Dial { peer, now, draw } => self.dial_slot(&peer, now, draw),
-            Command::Listen { peer, now, draw } => self.listen_slot(&peer, now, draw),
+            Command::Dial { peer, now, draw } => self.reserve_slot(true, &peer, now, draw),
+            Command::Listen { peer, now, draw } => self.reserve_slot(false, &peer, now, draw),
             Command::Release(peer) => self.release_slot(&peer),
             command => self.serve(command),
         }
     }
 
-    /// Reserves the peer in the server's directory for a dial if that is granted, with a slot made
-    /// for the reservation.
-    pub fn dial_slot(&mut self, peer: &C, now: Duration, draw: Duration) -> Reply<C>
-        ensures stepped { IsSteppedAlone C.cmp (Command.Dial peer.now now draw)
+    /// Reserves the peer in the server's directory if that is granted, with a slot made for the
+    /// reservation: for a dial if `dialer`, else inbound.
+    pub fn reserve_slot(
+        &mut self,
+        dialer: bool,
+        peer: &C,
+        now: Duration,
+        draw: Duration,
+    ) -> Reply<C>
+        ensures stepped { IsSteppedAlone C.cmp (reserving dialer peer.now now draw)
             result self.old self.new }
         ensures directory { was_made result ≡ false → self.new.directory ≡ self.old.directory }
         ensures held { was_made result ≡ false → (q : C) →
@@ -69,42 +75,32 @@ impl<C: PublicKey> Server<C> {
         if let Err(AllocError) = self.slots.make(*peer) {
             return Reply::OutOfMemory;
         }
-        let refusal = match self.directory.dial(peer, now, draw) {
-            Ok(Some(reservation)) => {
-                self.slots.put(reservation);
-                return Reply::Dial(true);
-            }
-            Ok(None) => Reply::Dial(false),
-            Err(AllocError) => Reply::OutOfMemory,
-        };
+        let reply = self.reserve(dialer, peer, now, draw);
+        if is_granted(&reply) {
+            return reply;
+        }
         self.slots.drop_empty(peer);
-        refusal
+        reply
     }
 
-    /// Reserves the inbound peer in the server's directory if that is granted, with a slot made for
-    /// the reservation.
-    pub fn listen_slot(&mut self, peer: &C, now: Duration, draw: Duration) -> Reply<C>
-        ensures stepped { IsSteppedAlone C.cmp (Command.Listen peer.now now draw)
+    // Reserves the peer in the server's directory if that is granted, in its slot: for a dial if
+    // `dialer`, else inbound.
+    fn reserve(&mut self, dialer: bool, peer: &C, now: Duration, draw: Duration) -> Reply<C>
+        requires room { has_slot C.cmp self.old.slots peer.now ≡ true }
+        ensures served { IsServed C.cmp (reserving dialer peer.now now draw)
             result self.old self.new }
-        ensures directory { was_made result ≡ false → self.new.directory ≡ self.old.directory }
-        ensures held { was_made result ≡ false → (q : C) →
-            held_in C.cmp self.new.slots q ≡ held_in C.cmp self.old.slots q }
-        ensures room { KeepsSlots C.cmp (Some peer.now) self.old.slots self.new.slots }
+        ensures unchanged { was_made result ≡ false → self.new ≡ self.old }
+        ensures slots { (q : C) →
+            has_slot C.cmp self.new.slots q ≡ has_slot C.cmp self.old.slots q }
+        ensures granted { grants result ≡ true →
+            is_some (held_in C.cmp self.new.slots peer.now) ≡ true }
         ensures ordered { AreSlots C.cmp self.new.slots }
     {
-        if let Err(AllocError) = self.slots.make(*peer) {
-            return Reply::OutOfMemory;
+        if dialer {
+            self.dial(peer, now, draw)
+        } else {
+            self.listen(peer, now, draw)
         }
-        let refusal = match self.directory.listen(peer, now, draw) {
-            Ok(Some(reservation)) => {
-                self.slots.put(reservation);
-                return Reply::Listen(true);
-            }
-            Ok(None) => Reply::Listen(false),
-            Err(AllocError) => Reply::OutOfMemory,
-        };
-        self.slots.drop_empty(peer);
-        refusal
     }
 
     /// Releases the server's reservation of the peer if one is held, and removes its slot.
@@ -123,5 +119,15 @@ impl<C: PublicKey> Server<C> {
             }
             None => Reply::NotHeld,
         }
+    }
+}
+
+// Whether a reservation was granted by a command of the server.
+fn is_granted<C: PublicKey>(reply: &Reply<C>) -> bool
+    ensures { result ≡ grants reply.now }
+{
+    match reply {
+        Reply::Dial(granted) | Reply::Listen(granted) => *granted,
+        _ => false,
     }
 }
