@@ -15,7 +15,7 @@ use Rattle.p2p_directory.specs.declared.node.received.Received.{Received}
 use Rattle.p2p_directory.specs.declared.node.received.Received.TheVariants as received
 use Rattle.p2p_tracker.specs.Calls.{Call}
 use Rattle.p2p_directory.specs.Received.{Wire, Standing, FrameOutcome, only, applying}
-use Rattle.p2p_directory.specs.Received.{ask_frame_at, received_at}
+use Rattle.p2p_directory.specs.Received.{ask_frame_at, received_at, verdicts_of}
 use Rattle.p2p_directory.specs.Nodes.{NodeView, Made, NodeStandsAt, AtEach, IsLeft, calls_with}
 use Rattle.p2p_directory.specs.Nodes.{standing_of, standing_in, AreValues, AnswersFrame}
 use Rattle.p2p_directory.specs.Run.{world_after}
@@ -167,7 +167,8 @@ pub record IsCarriedTo {C S : Type 0} (cmp : C → C → Ordering) (wire : Wire 
   pub left : (reply : List ℕ) →
       AnswersAsk wire (standing_of cmp wire a) (standing_of cmp wire b) place t
       (received.Reply reply) →
-      AnswersFrame cmp wire reply s (received_at wire (standing_of cmp wire a) reply s).answer a a2
+      AnswersFrame cmp wire verdicts_of reply s
+      (received_at wire (standing_of cmp wire a) reply s).answer a a2
 
 -- .. to the outcome that is answered, unless memory was refused
 abbrev pub Carries : {C S : Type 0} → (C → C → Ordering) → Wire C S → ℕ → ℕ → ℕ →

@@ -27,6 +27,7 @@ use Rattle.p2p_tracker.specs.Answers.{set_at_place}
 use Rattle.p2p_directory.specs.Run.{call_of, next, world_after, was_made}
 use Rattle.p2p_directory.specs.Run as run
 use Rattle.p2p_directory.specs.Received.{Wire, Standing, applies, received_at, ask_frame_at}
+use Rattle.p2p_directory.specs.Received.{verdicts_of}
 use Rattle.p2p_directory.specs.Received as frames
 use Rattle.p2p_directory.specs.Exchange.{exchanged_at, infos_applied, IsExchanged}
 use Rattle.p2p_directory.specs.Exchange as exchange
@@ -207,7 +208,7 @@ module _ {C S : Type 0} (cmp : C → C → Ordering) (wire : Wire C S) where
     pub node : NodeView C S
     pub others : vs2 ≡ slice_set vs i node
     pub received : (v : NodeView C S) →
-        IsReceived cmp wire frame now r (slice_index_or vs i v) node
+        IsReceived cmp wire verdicts_of frame now r (slice_index_or vs i v) node
 
   -- node i was asked, and all stayed
   pub record AsksAt (i place : ℕ) {E : Type 0} (r : Result (Option (List ℕ)) E)
@@ -262,7 +263,8 @@ abbrev pub named_at : {C S : Type 0} → NetworkCommand C S → ℕ → Option C
 named_at (command.Call i x) k = if i == k then named_peer x else None
 named_at c k = None
 
--- each node keeps a slot where something is held of the peer that is named, or else where it had one
+-- each node keeps a slot where something is held of the peer that is named, and else where it had
+-- one
 abbrev pub KeepRoom : {C S : Type 0} → (C → C → Ordering) → NetworkCommand C S →
     List (NodeView C S) → List (NodeView C S) → Type 0
 KeepRoom {C} {S} cmp c vs vs2 = (k : ℕ) (v : NodeView C S) → k < length vs →

@@ -11,7 +11,7 @@ use Rattle.p2p_discovery.specs.declared.discovery.Info.{Info}
 use Rattle.p2p_discovery.specs.declared.discovery.Payload.{Payload}
 use Rattle.p2p_discovery.specs.declared.discovery.PayloadConfig.{PayloadConfig}
 use Rattle.p2p_discovery.specs.Info.{IsInfo, IsKeyed}
-use Rattle.p2p_discovery.specs.Judgement.{Verifier, judge_of}
+use Rattle.p2p_discovery.specs.Judgement.{Judge, Verifier, judge_of}
 use Rattle.p2p_discovery.specs.Reading.{Reading, whole}
 use Rattle.p2p_tracker.specs.declared.directory.Metadata.{Metadata}
 use Rattle.p2p_directory.specs.declared.node.received.Received.{Received}
@@ -32,7 +32,7 @@ use Rattle.p2p_directory.specs.Run.{settings, call_of, world_after, next, bit_ve
 use Rattle.p2p_directory.specs.Run.{IsAnswer, Holds}
 use Rattle.p2p_directory.specs.Received as frames
 use Rattle.p2p_directory.specs.Received.{Wire, Standing, FrameOutcome, received_at, received_by}
-use Rattle.p2p_directory.specs.Received.{frame_may_want_memory, frame_may_want_memory_by}
+use Rattle.p2p_directory.specs.Received.{frame_may_want_memory_by}
 use Rattle.p2p_directory.specs.Received.{ask_frame_at, applied_with, told_with}
 
 -- WHAT IS SEEN
@@ -55,6 +55,14 @@ standing_of cmp wire v = record {
   bits = bit_vec_at cmp v.directory;
   infos = infos_in cmp v.directory;
 }
+
+-- how it is known which signatures of a payload's infos are right: by the keys, as `verdicts_of`
+-- says, or as a caller says
+abbrev pub Verdicts : Type 0 → Type 0 → Type 0
+Verdicts C S = Judge C S → Payload C S → List Bool
+
+abbrev pub given_verdicts : {C S : Type 0} → List Bool → Verdicts C S
+given_verdicts verdicts judge payload = verdicts
 
 -- a frame that was decoded: its bytes, the payload, and the limits
 pub record DecodedView (C S : Type 0) : Type 0 where
@@ -131,24 +139,20 @@ module _ {C S : Type 0} (m : Made C S) where
   -- an answer that may be want of memory or not, by how the node stands, is this at its point, and
   -- the node then stands at the point after the update that it made, if it made one
   pub record IsAnsweredAt (wire : Wire C S) (calls : List (Call C S)) (may : Standing C S → Bool)
-      (outcome : Standing C S → FrameOutcome C S) (r : Received C S) (v : NodeView C S) : Type 0 where
+      (outcome : Standing C S → FrameOutcome C S) (r : Received C S) (v : NodeView C S) :
+      Type 0 where
     pub answer :
         let node = standing_in wire (world_after m.directory calls) in
         frames.IsFrameAnswer (may node) (outcome node) r
     pub left : let node = standing_in wire (world_after m.directory calls) in
         NodeStandsAt (calls_with (applied_with (outcome node) r) calls) v
 
-  -- .. to a frame
-  abbrev pub IsReceivedAt : Wire C S → List (Call C S) → List ℕ → ℕ → Received C S → NodeView C S → Type 0
-  IsReceivedAt wire calls frame now = IsAnsweredAt wire calls
-      (λ node. frame_may_want_memory wire node frame now) (λ node. received_at wire node frame now)
-
-  -- .. by these verdicts on the signatures of its infos
-  abbrev pub IsReceivedByAt : Wire C S → List (Call C S) → List Bool → List ℕ → ℕ → Received C S →
+  -- .. to a frame, by these verdicts on the signatures of its infos
+  abbrev pub IsReceivedAt : Wire C S → List (Call C S) → Verdicts C S → List ℕ → ℕ → Received C S →
       NodeView C S → Type 0
-  IsReceivedByAt wire calls verdicts frame now = IsAnsweredAt wire calls
-      (λ node. frame_may_want_memory_by wire (λ _. verdicts) node frame now)
-      (λ node. received_by wire (λ _. verdicts) node frame now)
+  IsReceivedAt wire calls verdicts frame now = IsAnsweredAt wire calls
+      (λ node. frame_may_want_memory_by wire (verdicts node.judge) node frame now)
+      (λ node. received_by wire (verdicts node.judge) node frame now)
 
   -- the frame that is asked with, and want of memory only where there is a set at the place
   pub record IsAskedAt (wire : Wire C S) (calls : List (Call C S)) (place : ℕ)
@@ -170,13 +174,10 @@ module _ {C S : Type 0} (cmp : C → C → Ordering) where
   abbrev pub IsStepped : Command C S → Reply C S → NodeView C S → NodeView C S → Type 0
   IsStepped x r v v2 = AtEach v (λ m calls. IsSteppedAt m calls (call_of x) r v2)
 
-  abbrev pub IsReceived : Wire C S → List ℕ → ℕ → Received C S → NodeView C S → NodeView C S → Type 0
-  IsReceived wire frame now r v v2 = AtEach v (λ m calls. IsReceivedAt m wire calls frame now r v2)
-
-  abbrev pub IsReceivedBy : Wire C S → List Bool → List ℕ → ℕ → Received C S → NodeView C S →
+  abbrev pub IsReceived : Wire C S → Verdicts C S → List ℕ → ℕ → Received C S → NodeView C S →
       NodeView C S → Type 0
-  IsReceivedBy wire verdicts frame now r v v2 =
-      AtEach v (λ m calls. IsReceivedByAt m wire calls verdicts frame now r v2)
+  IsReceived wire verdicts frame now r v v2 =
+      AtEach v (λ m calls. IsReceivedAt m wire calls verdicts frame now r v2)
 
   abbrev pub IsAsked : Wire C S → ℕ → {E : Type 0} → Result (Option (List ℕ)) E → NodeView C S →
       Type 0
@@ -241,17 +242,12 @@ module _ {C S : Type 0} (cmp : C → C → Ordering) where
     pub answer : frames.IsFrameAnswer may o r
     pub left : IsLeft v (applied_with o r) v2
 
-  -- .. to a frame at a moment
-  abbrev pub AnswersFrame : Wire C S → List ℕ → ℕ → Received C S → NodeView C S → NodeView C S → Type 0
-  AnswersFrame wire frame now r v v2 = let node = standing_of cmp wire v in
-      Answers (frame_may_want_memory wire node frame now) (received_at wire node frame now) r v v2
-
-  -- .. by these verdicts on the signatures of its infos
-  abbrev pub AnswersFrameBy : Wire C S → List Bool → List ℕ → ℕ → Received C S → NodeView C S →
+  -- .. to a frame at a moment, by these verdicts on the signatures of its infos
+  abbrev pub AnswersFrame : Wire C S → Verdicts C S → List ℕ → ℕ → Received C S → NodeView C S →
       NodeView C S → Type 0
-  AnswersFrameBy wire verdicts frame now r v v2 = let node = standing_of cmp wire v in
-      Answers (frame_may_want_memory_by wire (λ _. verdicts) node frame now)
-      (received_by wire (λ _. verdicts) node frame now) r v v2
+  AnswersFrame wire verdicts frame now r v v2 = let node = standing_of cmp wire v in
+      Answers (frame_may_want_memory_by wire (verdicts node.judge) node frame now)
+      (received_by wire (verdicts node.judge) node frame now) r v v2
 
   -- the infos that it tells have a spelling: they are made of values of their types
   abbrev pub TellsValues : Wire C S → (C → Type 0) → (S → Type 0) →

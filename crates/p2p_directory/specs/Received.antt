@@ -1,6 +1,7 @@
 -- What a node asks and what it answers to a frame, and which infos are applied with that. Frames
 -- are bytes, moments nanoseconds.
-use Rattle.std.specs.Prelude.{ℕ, ◌≡◌, ◌==◌, ◌<◌, ◌^◌, Bool, true, false, not, ◌||◌, List, [], ◌∷◌, length}
+use Rattle.std.specs.Prelude.{ℕ, ◌≡◌, ◌==◌, ◌<◌, ◌^◌, Bool, true, false, not, ◌||◌, List, [], ◌∷◌}
+use Rattle.std.specs.Prelude.{length}
 use Rattle.std.specs.Prelude.{Option, Some, None, option_map, Result, Ok, Err}
 use Rattle.p2p_discovery.specs.declared.codec.error.CodecError.{CodecError}
 use Rattle.p2p_discovery.specs.declared.discovery.BitVec.{BitVec}

@@ -14,7 +14,7 @@ use Rattle.p2p_discovery.specs.declared.discovery.Payload.TheVariants as said
 use Rattle.p2p_discovery.specs.declared.discovery.PayloadConfig.{PayloadConfig}
 use Rattle.p2p_discovery.specs.Laws.Payload.{lawful_payload}
 use Rattle.p2p_discovery.specs.Reading.{IsBytes, ends_whole, whole}
-use Rattle.p2p_directory.specs.Nodes.{AnswersFrameBy, IsReceivedBy}
+use Rattle.p2p_directory.specs.Nodes.{given_verdicts, AnswersFrame, IsReceived}
 use Rattle.p2p_directory.specs.Received as frames
 use Rattle.p2p_directory.specs.Received.{Standing}
 use Rattle.p2p_directory.specs.declared.node.received.Received.{Received}
@@ -27,7 +27,7 @@ use Rattle.p2p_session.specs.Schemes.{Scheme, wire}
 
 module _ {C S : Type 0} (k : Scheme C S) where
   pub hears_same : (verdicts : List Bool) (frame bytes : List ℕ) (t : ℕ) (v v2 : NodeView C S) (r : Received C S) → bytes ≡ frame →
-      AnswersFrameBy k.key.cmp (wire k) verdicts bytes t r v v2 → IsReceivedBy k.key.cmp (wire k) verdicts bytes t r v v2 →
+      AnswersFrame k.key.cmp (wire k) (given_verdicts verdicts) bytes t r v v2 → IsReceived k.key.cmp (wire k) (given_verdicts verdicts) bytes t r v v2 →
       Hears k verdicts frame t v v2 r
   hears_same verdicts frame bytes t v v2 r same seen received =
       subst (λ x. Hears k verdicts x t v v2 r) same (record { seen = seen; received = received })
@@ -115,7 +115,7 @@ module _ {C S : Type 0} (k : Scheme C S)
     Outcome = Result (Payload C S × List ℕ) CodecError
 
     -- a frame that is accepted as a greeting encodes an info, and this key is of its peer
-    pub greeting_encodes : (key : C) → AnswersFrameBy k.key.cmp (wire k) vs frame t (received.Greeted key) v v2 →
+    pub greeting_encodes : (key : C) → AnswersFrame k.key.cmp (wire k) (given_verdicts vs) frame t (received.Greeted key) v v2 →
         (i : Info C S) × (frame ≡ (wire k).spelling (said.Greeting i)) × (key ≡ i.public_key)
     greeting_encodes key h = go (whole ((wire k).reading v.limits) frame).outcome refl h.answer
       where
@@ -128,7 +128,7 @@ module _ {C S : Type 0} (k : Scheme C S)
             (who.0, is_encoding v.limits frame p rest bytes read ∙ ap (wire k).spelling who.1, who.2)
 
     -- .. and as a message ends with it
-    pub message_ends : (d : Data) → AnswersFrameBy k.key.cmp (wire k) vs frame t (received.Data d) v v2 →
+    pub message_ends : (d : Data) → AnswersFrame k.key.cmp (wire k) (given_verdicts vs) frame t (received.Data d) v v2 →
         (front : List ℕ) × (frame ≡ front ++ d.message)
     message_ends d h = go (whole ((wire k).reading v.limits) frame).outcome refl h.answer
       where

@@ -16,7 +16,7 @@ use Rattle.p2p_discovery.specs.Reading.{whole}
 use Rattle.p2p_tracker.specs.declared.directory.Metadata.{Metadata}
 use Rattle.p2p_tracker.specs.declared.directory.Metadata.TheVariants.{Dialer, Listener}
 use Rattle.p2p_directory.specs.Held.{held_of}
-use Rattle.p2p_directory.specs.Nodes.{NodeView, standing_of, AnswersFrameBy, IsReceivedBy}
+use Rattle.p2p_directory.specs.Nodes.{NodeView, standing_of, given_verdicts, AnswersFrame, IsReceived}
 use Rattle.p2p_directory.specs.Received.{are_miscounted, IsWantOfMemory}
 use Rattle.p2p_directory.specs.declared.node.received.Received.{Received}
 use Rattle.p2p_directory.specs.declared.node.received.Received.TheVariants as received
@@ -88,8 +88,8 @@ module _ {C S : Type 0} (k : Scheme C S) where
   -- the node took the frame by these verdicts, wherever the calls accepted before led
   pub record Hears (verdicts : List Bool) (frame : List ℕ) (now : ℕ) (v v2 : NodeView C S)
       (r : Received C S) : Type 0 where
-    pub seen : AnswersFrameBy k.key.cmp (wire k) verdicts frame now r v v2
-    pub received : IsReceivedBy k.key.cmp (wire k) verdicts frame now r v v2
+    pub seen : AnswersFrame k.key.cmp (wire k) (given_verdicts verdicts) frame now r v v2
+    pub received : IsReceived k.key.cmp (wire k) (given_verdicts verdicts) frame now r v v2
 
   -- .. at a moment that was read
   abbrev pub HearsAt : List Bool → List ℕ → Result ℕ Refusal → NodeView C S → NodeView C S →

@@ -23,7 +23,7 @@ use Rattle.p2p_directory.specs.Held.{ReleasesAll}
 use Rattle.p2p_directory.specs.Network.{are_there, IsServedAmong, IsAdded, IsReplaced, ReplacesAt}
 use Rattle.p2p_directory.specs.Nodes.{NodeView, NodeStandsAt, made_of, IsStepped, AnswersFrame, AsksWith}
 use Rattle.p2p_directory.specs.Nodes.{IsReceived, IsLeft, IsSame}
-use Rattle.p2p_directory.specs.Received.{Wire}
+use Rattle.p2p_directory.specs.Received.{Wire, verdicts_of}
 use Rattle.p2p_directory.specs.Private.Networks.{reply_to_ask, ExchangesAmong}
 use Rattle.p2p_directory.proofs.Nodes.Worlds.{received_in, asked_in, exchanged_in}
 
@@ -60,7 +60,7 @@ module _ {C S : Type 0} (cmp : C → C → Ordering) (wire : Wire C S) (es : Lis
   -- .. took a frame
   pub received_among : (i : ℕ) (frame : List ℕ) (now : Duration) (r : Received C S)
       (d e2 : NodeView C S) → i < length es →
-      AnswersFrame cmp wire frame (as_nanos now) r (slice_index_or es i d) e2 →
+      AnswersFrame cmp wire verdicts_of frame (as_nanos now) r (slice_index_or es i d) e2 →
       IsServedAmong cmp wire (command.Frame i frame now) (reply.Frame r)
       es (slice_set es i e2)
   received_among i frame now r d e2 lt seen = record {
@@ -68,9 +68,9 @@ module _ {C S : Type 0} (cmp : C → C → Ordering) (wire : Wire C S) (es : Lis
     node = e2;
     others = refl;
     received = λ v. subst
-        (λ (u : NodeView C S). IsReceived cmp wire frame (as_nanos now) r u e2)
+        (λ (u : NodeView C S). IsReceived cmp wire verdicts_of frame (as_nanos now) r u e2)
         (get_or_default es i d v lt) (λ given calls at. received_in (made_of cmp given) wire calls
-        (slice_index_or es i d) at given.cfg.max_sets.ok frame (as_nanos now) r
+        (slice_index_or es i d) at given.cfg.max_sets.ok verdicts_of frame (as_nanos now) r
         e2 seen);
   }
 

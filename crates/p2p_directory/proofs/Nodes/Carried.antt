@@ -17,7 +17,7 @@ use Rattle.p2p_directory.specs.declared.node.exchanged.Exchanged.{Exchanged}
 use Rattle.p2p_directory.specs.declared.node.exchanged.Exchanged.TheVariants as exchanged
 use Rattle.p2p_directory.specs.declared.node.received.Received.{Received}
 use Rattle.p2p_directory.specs.declared.node.received.Received.TheVariants as received
-use Rattle.p2p_directory.specs.Received.{Wire, Standing, FrameOutcome, read_at, received_at}
+use Rattle.p2p_directory.specs.Received.{Wire, Standing, FrameOutcome, read_at, received_at, verdicts_of}
 use Rattle.p2p_directory.specs.Received.{ask_frame_at, only, applying, replied, taken, frame_may_want_memory}
 use Rattle.p2p_directory.specs.Exchange.{ExchangeOutcome, judged_at, replied_at, asked_at, exchanged_at, IsCarried}
 use Rattle.p2p_directory.specs.Exchange.{HasSpelling, HaveSpelling, CanBeReplied, CanBeSpelled, AnswersAsk, TakesReply}
@@ -104,12 +104,12 @@ module _ {C S : Type 0} (cmp : C → C → Ordering) (wire : Wire C S) (place s 
   Left reply o = Answers cmp (frame_may_want_memory wire asking reply s) o o.answer a a2
 
   left_by : (o : FrameOutcome C S) (reply : List ℕ) → TakesReply wire asking replying place s t o → Answered (received.Reply reply) → Left reply o →
-      AnswersFrame cmp wire reply s (received_at wire asking reply s).answer a a2
+      AnswersFrame cmp wire verdicts_of reply s (received_at wire asking reply s).answer a a2
   left_by o reply took answered left = subst (Left reply)
       (sym (ap (λ x. received_at wire asking x s) (one_reply reply took.0 answered took.1) ∙ took.2)) left
 
   left : (o : ExchangeOutcome C S) → IsCarried wire asking replying place s t o → IsLeft cmp a (applied_by o) a2 → (reply : List ℕ) → Answered (received.Reply reply) →
-      AnswersFrame cmp wire reply s (received_at wire asking reply s).answer a a2
+      AnswersFrame cmp wire verdicts_of reply s (received_at wire asking reply s).answer a a2
   unfolding applied_by
   left NoSet h is reply answered = absurd (let e = answered.1 in cc)
   left (AskRefused fault) h is reply answered = absurd (let e = one_answer (received.Codec fault) (received.Reply reply) h answered in cc)

@@ -23,7 +23,7 @@ use Rattle.p2p_directory.specs.declared.run.commands.Reply.{Reply}
 use Rattle.p2p_tracker.specs.Calls.{Call}
 use Rattle.p2p_directory.specs.Run.{call_of}
 use Rattle.p2p_directory.specs.Received as frames
-use Rattle.p2p_directory.specs.Received.{Wire}
+use Rattle.p2p_directory.specs.Received.{Wire, verdicts_of}
 use Rattle.p2p_directory.specs.Nodes.{Made, NodeView, NodeStandsAt, IsReceivedAt, IsAskedAt, IsSteppedAt, IsStepAnswer}
 use Rattle.p2p_directory.specs.Nodes.{IsSame, KeepsRoom, has_slot, named_peer}
 use Rattle.p2p_directory.specs.Network.{Done, changed_by, calls_then, is_node, calls_at, are_there}
@@ -170,7 +170,7 @@ module _ {C S : Type 0} (wire : Wire C S) (size : ℕ) (node : ℕ → Made C S)
 
   pub frame_more : (i : ℕ) (frame : List ℕ) (now : Duration) (r : Received C S)
       (e2 : NodeView C S) → i < length es →
-      IsReceivedAt (node i) wire (calls_at wire size node done i) frame (as_nanos now) r
+      IsReceivedAt (node i) wire (calls_at wire size node done i) verdicts_of frame (as_nanos now) r
       e2 →
       IsAnsweredAt wire size node done (command.Frame i frame now) (reply.Frame r)
       (slice_set es i e2)

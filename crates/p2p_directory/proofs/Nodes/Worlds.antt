@@ -16,11 +16,11 @@ use Rattle.p2p_directory.specs.Held.{held_of}
 use Rattle.p2p_directory.specs.Refinement.{Refines}
 use Rattle.p2p_directory.specs.Run.{world_after, Holds}
 use Rattle.p2p_directory.specs.Received as frames
-use Rattle.p2p_directory.specs.Received.{Wire, Standing, FrameOutcome, received_at, received_by, frame_may_want_memory, frame_may_want_memory_by, ask_frame_at, applied_with, told_with}
+use Rattle.p2p_directory.specs.Received.{Wire, Standing, FrameOutcome, received_at, received_by, frame_may_want_memory_by, ask_frame_at, applied_with, told_with}
 use Rattle.p2p_directory.specs.declared.node.exchanged.Exchanged.{Exchanged}
 use Rattle.p2p_directory.specs.Exchange as exchange
 use Rattle.p2p_directory.specs.Exchange.{exchanged_at, infos_applied, IsExchangedAt, HasSpelling, ExchangeOutcome, IsCarried}
-use Rattle.p2p_directory.specs.Nodes.{Made, NodeView, NodeStandsAt, IsAnsweredAt, IsReceivedAt, IsReceivedByAt, IsAskedAt, standing_of, standing_in, calls_with, IsLeft, Answers, AsksWith, AreValues, StandsSomewhere, made_of}
+use Rattle.p2p_directory.specs.Nodes.{Made, NodeView, NodeStandsAt, IsAnsweredAt, IsReceivedAt, IsAskedAt, standing_of, standing_in, calls_with, IsLeft, Answers, AnswersFrame, Verdicts, AsksWith, AreValues, StandsSomewhere, made_of}
 use Rattle.p2p_directory.specs.Private.Serving.{ServerView, node_at}
 use Rattle.p2p_directory.specs.Private.Slots.{AreSlots}
 use Rattle.p2p_directory.proofs.Definitions.Law
@@ -78,14 +78,10 @@ module _ {C S : Type 0} (m : Made C S) (wire : Wire C S) (calls : List (Call C S
         stands_alike (left_at some (applied_with (outcome seen) r) v2 answers.left);
   }
 
-  pub received_in : 1 ≤ m.directory.max_sets → (frame : List ℕ) (now : ℕ) (r : Received C S) (v2 : NodeView C S) →
-      Answers m.directory.cmp (frame_may_want_memory wire seen frame now) (received_at wire seen frame now) r v v2 → IsReceivedAt m wire calls frame now r v2
-  received_in some frame now = answered_in some (λ node. frame_may_want_memory wire node frame now) (λ node. received_at wire node frame now)
-
-  pub received_by_in : 1 ≤ m.directory.max_sets → (verdicts : List Bool) (frame : List ℕ) (now : ℕ) (r : Received C S) (v2 : NodeView C S) →
-      Answers m.directory.cmp (frame_may_want_memory_by wire (λ _. verdicts) seen frame now) (received_by wire (λ _. verdicts) seen frame now) r v v2 →
-      IsReceivedByAt m wire calls verdicts frame now r v2
-  received_by_in some verdicts frame now = answered_in some (λ node. frame_may_want_memory_by wire (λ _. verdicts) node frame now) (λ node. received_by wire (λ _. verdicts) node frame now)
+  pub received_in : 1 ≤ m.directory.max_sets → (verdicts : Verdicts C S) (frame : List ℕ) (now : ℕ) (r : Received C S) (v2 : NodeView C S) →
+      AnswersFrame m.directory.cmp wire verdicts frame now r v v2 → IsReceivedAt m wire calls verdicts frame now r v2
+  received_in some verdicts frame now = answered_in some (λ node. frame_may_want_memory_by wire (verdicts node.judge) node frame now)
+      (λ node. received_by wire (verdicts node.judge) node frame now)
 
   pub asked_in : {E : Type 0} (place : ℕ) (r : Result (Option (List ℕ)) E) → AsksWith m.directory.cmp wire place r v → IsAskedAt m wire calls place r
   asked_in place r asks = record {

@@ -3,7 +3,7 @@
 ghost use Rattle.std.specs.Prelude.{◌≡◌, ◌<◌, ◌^◌, ℕ, true, List};
 ghost use Rattle.p2p_tracker.specs.Calls.{Call};
 ghost use Rattle.p2p_discovery.specs.Info.{IsInfo, IsKeyed};
-ghost use Rattle.p2p_directory.specs.Received.{Wire, Standing, wire_of};
+ghost use Rattle.p2p_directory.specs.Received.{Wire, Standing, verdicts_of, wire_of};
 ghost use Rattle.p2p_directory.specs.Nodes.{Made, NodeView, IsReceivedAt};
 ghost use Rattle.p2p_directory.specs.Exchange.{ExchangeOutcome, exchanged_at};
 ghost use Rattle.p2p_directory.specs.Exchange.{CanBeSpelled, IsCarried};
@@ -26,7 +26,7 @@ pub fn infos_may_come_late<C: PublicKey>()
         (calls : List (Call C C.Signature)) (frame : List ℕ) (now : ℕ) (r : Received C C.Signature)
         (v : NodeView C C.Signature) →
         let wire = wire_of C.verifies C.FixedBytes C.Signature.FixedBytes in
-        IsReceivedAt m wire calls frame now r v →
+        IsReceivedAt m wire calls verdicts_of frame now r v →
         TakesLateAt wire C.IsValue C.Signature.IsValue m calls frame now r }
 {}
 

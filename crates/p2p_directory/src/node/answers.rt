@@ -11,8 +11,9 @@ ghost use Rattle.p2p_discovery.specs.declared.discovery.Payload.TheVariants.{Pee
 ghost use Rattle.p2p_tracker.specs.Directory.{bit_vec_at, infos_in};
 ghost use Rattle.p2p_directory.specs.Received.{wire_of, greeted, replied, taken, takes_room};
 ghost use Rattle.p2p_directory.specs.Received.{applies, told_with, are_miscounted, answered_by};
-ghost use Rattle.p2p_directory.specs.Received.{received_of, AreFew, first_verdict, IsWantOfMemory};
-ghost use Rattle.p2p_directory.specs.Nodes.{AnswersFrameBy, standing_of, Answers, AnswersFrame};
+ghost use Rattle.p2p_directory.specs.Received.{received_of, AreFew, first_verdict};
+ghost use Rattle.p2p_directory.specs.Received.{verdicts_of, IsWantOfMemory};
+ghost use Rattle.p2p_directory.specs.Nodes.{standing_of, given_verdicts, Answers, AnswersFrame};
 ghost use Rattle.p2p_directory.specs.Nodes.{AreValues, AsksWith, TellsValues};
 ghost use Rattle.p2p_directory.specs.Exchange.{HasSpelling, HaveSpelling};
 ghost use Rattle.p2p_directory.specs.Private.Frames.{fault_answer};
@@ -51,7 +52,7 @@ impl<C: PublicKey> Node<C> {
     // Processes a frame that the node received at this time.
     pub(super) fn answer(&mut self, frame: Bytes, now: Duration) -> Received<C>
         ensures seen { AnswersFrame C.cmp (wire_of C.verifies C.FixedBytes C.Signature.FixedBytes)
-            frame (as_nanos now) result self.old self.new }
+            verdicts_of frame (as_nanos now) result self.old self.new }
         ensures unchanged { applies result ≡ false → self.new ≡ self.old }
         ensures values { TellsValues C.cmp (wire_of C.verifies C.FixedBytes C.Signature.FixedBytes)
             C.IsValue C.Signature.IsValue frame (as_nanos now) result self.old }
@@ -76,8 +77,8 @@ impl<C: PublicKey> Node<C> {
         verdicts: &[bool],
     ) -> Result<Answer<C>, Miscounted>
         ensures seen { let wire = wire_of C.verifies C.FixedBytes C.Signature.FixedBytes in
-            IfOk result (λ a. AnswersFrameBy C.cmp wire verdicts.now frame (as_nanos now)
-            (received_of wire a) self.old self.new) }
+            IfOk result (λ a. AnswersFrame C.cmp wire (given_verdicts verdicts.now) frame
+            (as_nanos now) (received_of wire a) self.old self.new) }
         ensures unchanged { let wire = wire_of C.verifies C.FixedBytes C.Signature.FixedBytes in
             IfOk result (λ a. applies (received_of wire a) ≡ false → self.new ≡ self.old) }
         ensures counted { let wire = wire_of C.verifies C.FixedBytes C.Signature.FixedBytes in
@@ -106,8 +107,8 @@ impl<C: PublicKey> Node<C> {
         verdicts: &[bool],
     ) -> Result<Answer<C>, Miscounted>
         ensures seen { let wire = wire_of C.verifies C.FixedBytes C.Signature.FixedBytes in
-            IfOk result (λ a. AnswersFrameBy C.cmp wire verdicts.now decoded.frame (as_nanos now)
-            (received_of wire a) self.old self.new) }
+            IfOk result (λ a. AnswersFrame C.cmp wire (given_verdicts verdicts.now) decoded.frame
+            (as_nanos now) (received_of wire a) self.old self.new) }
         ensures unchanged { let wire = wire_of C.verifies C.FixedBytes C.Signature.FixedBytes in
             IfOk result (λ a. applies (received_of wire a) ≡ false → self.new ≡ self.old) }
         ensures counted { let wire = wire_of C.verifies C.FixedBytes C.Signature.FixedBytes in

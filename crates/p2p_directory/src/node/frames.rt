@@ -3,9 +3,9 @@
 ghost use Rattle.std.specs.Prelude.{◌≡◌, [], true, false, IfOk, OnErr};
 ghost use Rattle.std.specs.Duration.{as_nanos};
 ghost use Rattle.p2p_directory.specs.Received.{wire_of, applies, received_of, AreFew};
-ghost use Rattle.p2p_directory.specs.Received.{are_miscounted, IsWantOfMemory};
-ghost use Rattle.p2p_directory.specs.Nodes.{IsAsked, IsReceived, IsReceivedBy, standing_of};
-ghost use Rattle.p2p_directory.specs.Nodes.{AnswersFrame, AnswersFrameBy, AsksWith, TellsValues};
+ghost use Rattle.p2p_directory.specs.Received.{are_miscounted, verdicts_of, IsWantOfMemory};
+ghost use Rattle.p2p_directory.specs.Nodes.{IsAsked, IsReceived, given_verdicts, standing_of};
+ghost use Rattle.p2p_directory.specs.Nodes.{AnswersFrame, AsksWith, TellsValues};
 ghost use Rattle.p2p_directory.specs.Nodes.{AtEach};
 ghost use Rattle.p2p_discovery.specs.Payload.{payload_at};
 ghost use Rattle.p2p_discovery.specs.Reading.{GivesAs, whole};
@@ -69,12 +69,12 @@ impl<C: PublicKey> Node<C> {
     /// One pass over the frame, one signature verified for each info, and the cost of the call.
     pub fn receive(&mut self, frame: Bytes, now: Duration) -> Received<C>
         ensures seen { AnswersFrame C.cmp (wire_of C.verifies C.FixedBytes C.Signature.FixedBytes)
-            frame (as_nanos now) result self.old self.new }
+            verdicts_of frame (as_nanos now) result self.old self.new }
         ensures unchanged { applies result ≡ false → self.new ≡ self.old }
         ensures values { TellsValues C.cmp (wire_of C.verifies C.FixedBytes C.Signature.FixedBytes)
             C.IsValue C.Signature.IsValue frame (as_nanos now) result self.old }
         ensures received { IsReceived C.cmp (wire_of C.verifies C.FixedBytes C.Signature.FixedBytes)
-            frame (as_nanos now) result self.old self.new }
+            verdicts_of frame (as_nanos now) result self.old self.new }
         ensures late { AtEach C.cmp self.old (λ m calls. TakesLateAt
             (wire_of C.verifies C.FixedBytes C.Signature.FixedBytes)
             C.IsValue C.Signature.IsValue m calls frame (as_nanos now) result) }
@@ -103,11 +103,11 @@ impl<C: PublicKey> Node<C> {
         verdicts: &[bool],
     ) -> Result<Answer<C>, Miscounted>
         ensures seen { let wire = wire_of C.verifies C.FixedBytes C.Signature.FixedBytes in
-            IfOk result (λ a. AnswersFrameBy C.cmp wire verdicts.now frame (as_nanos now)
-            (received_of wire a) self.old self.new) }
+            IfOk result (λ a. AnswersFrame C.cmp wire (given_verdicts verdicts.now) frame
+            (as_nanos now) (received_of wire a) self.old self.new) }
         ensures received { let wire = wire_of C.verifies C.FixedBytes C.Signature.FixedBytes in
-            IfOk result (λ a. IsReceivedBy C.cmp wire verdicts.now frame (as_nanos now)
-            (received_of wire a) self.old self.new) }
+            IfOk result (λ a. IsReceived C.cmp wire (given_verdicts verdicts.now) frame
+            (as_nanos now) (received_of wire a) self.old self.new) }
         ensures unchanged { let wire = wire_of C.verifies C.FixedBytes C.Signature.FixedBytes in
             IfOk result (λ a. applies (received_of wire a) ≡ false → self.new ≡ self.old) }
         ensures counted { let wire = wire_of C.verifies C.FixedBytes C.Signature.FixedBytes in
@@ -160,11 +160,11 @@ impl<C: PublicKey> Node<C> {
         verdicts: &[bool],
     ) -> Result<Answer<C>, Miscounted>
         ensures seen { let wire = wire_of C.verifies C.FixedBytes C.Signature.FixedBytes in
-            IfOk result (λ a. AnswersFrameBy C.cmp wire verdicts.now decoded.frame (as_nanos now)
-            (received_of wire a) self.old self.new) }
+            IfOk result (λ a. AnswersFrame C.cmp wire (given_verdicts verdicts.now) decoded.frame
+            (as_nanos now) (received_of wire a) self.old self.new) }
         ensures received { let wire = wire_of C.verifies C.FixedBytes C.Signature.FixedBytes in
-            IfOk result (λ a. IsReceivedBy C.cmp wire verdicts.now decoded.frame (as_nanos now)
-            (received_of wire a) self.old self.new) }
+            IfOk result (λ a. IsReceived C.cmp wire (given_verdicts verdicts.now) decoded.frame
+            (as_nanos now) (received_of wire a) self.old self.new) }
         ensures unchanged { let wire = wire_of C.verifies C.FixedBytes C.Signature.FixedBytes in
             IfOk result (λ a. applies (received_of wire a) ≡ false → self.new ≡ self.old) }
         ensures counted { let wire = wire_of C.verifies C.FixedBytes C.Signature.FixedBytes in

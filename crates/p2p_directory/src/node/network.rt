@@ -164,8 +164,8 @@ impl<C: PublicKey> Network<C> {
     /// whose reply is `NoNode`, `NotReserved` or `NotHeld`, has no effect.
     ///
     /// A `Call` is served as [`Node::step`] does: space for a reservation is allocated before a
-    /// `Dial` or a `Listen`, so the reply to both may be `OutOfMemory` if that fails. No slot is kept
-    /// of a peer of whom nothing is held.
+    /// `Dial` or a `Listen`, so the reply to both may be `OutOfMemory` if that fails. No slot is
+    /// kept of a peer of whom nothing is held.
     ///
     /// A command to one node leaves all others as they were, and an exchange all but the asker.
     ///

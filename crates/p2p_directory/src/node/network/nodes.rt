@@ -4,7 +4,8 @@ ghost use Rattle.std.specs.Prelude.{◌≡◌, ◌<◌, false, ◌==◌, OnOk, l
 ghost use Rattle.std.specs.List.{All};
 ghost use Rattle.std.specs.Duration.{as_nanos};
 ghost use Rattle.p2p_directory.specs.Received.{wire_of};
-ghost use Rattle.p2p_directory.specs.Network.{IsNetworkServed, IsServedAmong, may_change, AreSame, KeepRoom};
+ghost use Rattle.p2p_directory.specs.Network.{IsNetworkServed, IsServedAmong, may_change};
+ghost use Rattle.p2p_directory.specs.Network.{AreSame, KeepRoom};
 ghost use Rattle.p2p_directory.specs.Private.Networks.{HasRoomFor, GrowSlots, KeepSlots};
 ghost use Rattle.p2p_directory.specs.Private.Networks.{IsNetworkAnswered, IsNetworkWritten};
 ghost use Rattle.p2p_directory.specs.Private.Networks.{IsNetworkCarried, ExchangesAmong};

@@ -3,7 +3,8 @@
 ghost use Rattle.std.specs.Prelude.{◌≡◌, true, false, is_some, OnOk, OnErr, Some, ◌||◌};
 ghost use Rattle.p2p_tracker.specs.Calls.{may_reserve};
 ghost use Rattle.p2p_directory.specs.Run.{call_of, was_made};
-ghost use Rattle.p2p_directory.specs.Private.Serving.{grants, has_slot_for, reserved_peer, reserving, IsServed};
+ghost use Rattle.p2p_directory.specs.Private.Serving.{grants, has_slot_for, reserved_peer};
+ghost use Rattle.p2p_directory.specs.Private.Serving.{reserving, IsServed};
 ghost use Rattle.p2p_directory.specs.Private.Serving.{IsSteppedAlone};
 ghost use Rattle.p2p_directory.specs.Nodes.{is_named, named_peer};
 ghost use Rattle.p2p_directory.specs.Private.Slots.{has_slot, held_in};
@@ -35,8 +36,8 @@ impl<C: PublicKey> Server<C> {
         self.slots.make_for(command)
     }
 
-    /// Serves one command by the server's directory, with a slot made for the reservation that it may
-    /// be granted, which stays only if something is held in it.
+    /// Serves one command by the server's directory, with a slot made for the reservation that it
+    /// may be granted, which stays only if something is held in it.
     pub fn step(&mut self, command: Command<C>) -> Reply<C>
         ensures stepped { IsSteppedAlone C.cmp command result self.old self.new }
         ensures directory { was_made result ≡ false → self.new.directory ≡ self.old.directory }

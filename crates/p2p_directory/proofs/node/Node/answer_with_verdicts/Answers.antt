@@ -1,14 +1,14 @@
 use Rattle.std.specs.Duration.{as_nanos}
 use Rattle.std.proofs.lemmas.Result.{IfOk-weaker}
-use Rattle.p2p_directory.specs.Nodes.{made_of}
+use Rattle.p2p_directory.specs.Nodes.{given_verdicts, made_of}
 use Rattle.p2p_directory.specs.Received.{received_of}
-use Rattle.p2p_directory.proofs.Nodes.Worlds.{received_by_in}
+use Rattle.p2p_directory.proofs.Nodes.Worlds.{received_in}
 use Rattle.p2p_directory.proofs.Nodes.ReadBack.{wire_in}
 use Rattle.p2p_directory.proofs.node.Node.answer_with_verdicts.Goals as goal
 
 pub returns-clause-received : goal.returns-clause-received
 returns-clause-received g c = IfOk-weaker c.answer_frame.result _ _ (λ a seen given calls at.
-    received_by_in (made_of g.C.Ord.cmp given)
+    received_in (made_of g.C.Ord.cmp given)
     (wire_in g.C.PublicKey.verifies g.C.FixedBytes g.C.Signature.FixedBytes)
-    calls c.args.self.now at given.cfg.max_sets.ok c.args.verdicts.now c.args.frame (as_nanos c.args.now)
+    calls c.args.self.now at given.cfg.max_sets.ok (given_verdicts c.args.verdicts.now) c.args.frame (as_nanos c.args.now)
     (received_of (wire_in g.C.PublicKey.verifies g.C.FixedBytes g.C.Signature.FixedBytes) a) c.answer_frame.new.self seen) c.answer_frame.ensures.seen

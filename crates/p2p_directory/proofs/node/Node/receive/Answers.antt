@@ -1,7 +1,7 @@
 use Rattle.std.proofs.Common.{refl}
 use Rattle.std.specs.Duration.{as_nanos}
 use Rattle.p2p_directory.specs.Nodes.{made_of, standing_in}
-use Rattle.p2p_directory.specs.Received.{frame_may_want_memory}
+use Rattle.p2p_directory.specs.Received.{verdicts_of, frame_may_want_memory}
 use Rattle.p2p_directory.specs.Run.{world_after}
 use Rattle.p2p_directory.proofs.LawsOfGossip.Late
 use Rattle.p2p_directory.proofs.Nodes.Worlds.{received_in}
@@ -12,7 +12,7 @@ pub returns-clause-received : goal.returns-clause-received
 returns-clause-received g c = λ given calls at.
     received_in (made_of g.C.Ord.cmp given)
     (wire_in g.C.PublicKey.verifies g.C.FixedBytes g.C.Signature.FixedBytes)
-    calls c.args.self.now at given.cfg.max_sets.ok c.args.frame (as_nanos c.args.now)
+    calls c.args.self.now at given.cfg.max_sets.ok verdicts_of c.args.frame (as_nanos c.args.now)
     c.answer.result c.answer.new.self c.answer.ensures.seen
 
 pub returns-clause-late : goal.returns-clause-late

@@ -1,3 +1,4 @@
+use Rattle.p2p_directory.specs.Received.{verdicts_of}
 use Rattle.std.specs.List.{list_any}
 use Rattle.std.specs.BTreeMap.{is_at}
 use Rattle.std.proofs.lemmas.Bool.{le-ltb}
@@ -32,7 +33,7 @@ returns-clause-answered g c = λ setups done other at.
     frame_more wire size node done es at i c.args.frame c.args.now c.answer.result c.answer.new.self
     c.if-node-nodes.false (received_in (node i) wire (calls_at wire size node done i) e
     (stands_at wire size node done es at i c.index-nodes-node.result c.if-node-nodes.false)
-    (slice_index_or setups i other).cfg.max_sets.ok c.args.frame (as_nanos c.args.now)
+    (slice_index_or setups i other).cfg.max_sets.ok verdicts_of c.args.frame (as_nanos c.args.now)
     c.answer.result c.answer.new.self c.answer.ensures.seen)
 
 pub returns-clause-written : goal.returns-clause-written
