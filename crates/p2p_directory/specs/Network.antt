@@ -126,7 +126,8 @@ module _ {C S : Type 0} (wire : Wire C S) where
         is_some (set_at_place (node i).directory (world_at_node done i) place) ≡ true
     IsServedAnswer done (command.Frame i frame now) (reply.Frame r) =
         let at = standing_at done i in
-        frames.IsFrameAnswer (frames.frame_may_want_memory wire at frame (as_nanos now))
+        frames.IsFrameAnswer
+        (frames.frame_may_want_memory_by wire (verdicts_of at.judge) at frame (as_nanos now))
         (received_at wire at frame (as_nanos now)) r
     IsServedAnswer done (command.Exchange asker replier place asker_now replier_now)
         (reply.Exchange r) =

@@ -37,8 +37,8 @@ use Rattle.p2p_directory.specs.Received.{ask_frame_at, applied_with, told_with}
 
 -- WHAT IS SEEN
 
--- a node's directory, what is held of its grants, the peers of whom there is a slot, in which their
--- reservation is or may be put, its limits, and what its verifier holds
+-- a node's directory, what is held of its grants, the peers with a slot for their reservation, its
+-- limits, and what its verifier holds
 pub record NodeView (C S : Type 0) : Type 0 where
   pub directory : DirectoryView C S
   pub held : List (Metadata C S)

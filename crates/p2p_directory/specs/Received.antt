@@ -187,7 +187,3 @@ module _ {C S : Type 0} (wire : Wire C S) where
   frame_may_want_memory_by verdicts node frame now =
       (whole (wire.reading node.limits) frame).grows
       || takes_room (received_by verdicts node frame now).answer
-
-  abbrev pub frame_may_want_memory : Standing C S → List ℕ → ℕ → Bool
-  frame_may_want_memory node frame now =
-      frame_may_want_memory_by (verdicts_of node.judge) node frame now

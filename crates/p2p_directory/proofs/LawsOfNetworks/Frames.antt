@@ -17,7 +17,6 @@ use Rattle.p2p_directory.specs.declared.node.network.commands.NetworkCommand.{Ne
 use Rattle.p2p_directory.specs.declared.node.network.commands.NetworkCommand.TheVariants as command
 use Rattle.p2p_directory.specs.declared.node.network.commands.NetworkReply.{NetworkReply}
 use Rattle.p2p_directory.specs.declared.node.network.commands.NetworkReply.TheVariants as reply
-use Rattle.p2p_directory.specs.Received as frames
 use Rattle.p2p_directory.specs.Received.{Wire, Standing, FrameOutcome, applying, greeted}
 use Rattle.p2p_directory.specs.Received.{read_at, received_at, applied_with}
 use Rattle.p2p_directory.specs.Nodes.{Made, calls_with}
@@ -28,7 +27,7 @@ use Rattle.p2p_directory.proofs.Nodes.ReadBack.{wire_by}
 use Rattle.p2p_directory.proofs.LawsOfGossip.Greetings.{answer_or_memory, read_back}
 use Rattle.p2p_directory.proofs.LawsOfGossip.Judged
 use Rattle.p2p_directory.proofs.LawsOfGossip.Late
-use Rattle.p2p_directory.proofs.Nodes.Frames.{calls_after_frame}
+use Rattle.p2p_directory.proofs.Nodes.Frames.{calls_after_frame, frame_may_want_memory}
 use Rattle.p2p_directory.proofs.LawsOfNetworks.Exchanges.{one_itself}
 
 module _ {C S : Type 0} {key_size signature_size : ℕ} {key : C → List ℕ} {signature : S → List ℕ}
@@ -84,7 +83,7 @@ module _ {C S : Type 0} {key_size signature_size : ℕ} {key : C → List ℕ} {
         (calls_at wire size node done i)
         ∙ sym (calls_after_frame wire (standing_at wire size node done i) (as_nanos now)
         (calls_at wire size node done i) frame
-        (frames.frame_may_want_memory wire (standing_at wire size node done i) frame (as_nanos now)) r
+        (frame_may_want_memory wire (standing_at wire size node done i) frame (as_nanos now)) r
         is.1)
 
     pub takes_frame : (done : Done C S) (c : NetworkCommand C S) (r : NetworkReply C S) →
@@ -96,6 +95,6 @@ module _ {C S : Type 0} {key_size signature_size : ℕ} {key : C → List ℕ} {
         (sym (after_frame done i frame now r is))
         (Late.takes_late k s verifies cmp total exact_keys (node i) (made i is.0)
         (calls_at wire size node done i) frame (as_nanos now) r
-        (frames.frame_may_want_memory wire (standing_at wire size node done i) frame (as_nanos now))
+        (frame_may_want_memory wire (standing_at wire size node done i) frame (as_nanos now))
         is.1)
     takes_frame done c r is = tt

@@ -25,6 +25,7 @@ use Rattle.p2p_tracker.specs.Answers.{bits_of, wants}
 use Rattle.p2p_tracker.specs.Moments.{epoch_millis}
 use Rattle.p2p_directory.specs.Run.{bit_vec_of}
 use Rattle.p2p_directory.specs.Received as frames
+use Rattle.p2p_directory.proofs.Nodes.Frames.{frame_may_want_memory}
 use Rattle.p2p_directory.specs.Received.{Wire, Standing, FrameOutcome, only, replied, read_at, received_at, told_with}
 use Rattle.p2p_directory.specs.Nodes.{Made, AreValues}
 use Rattle.p2p_directory.specs.Network.{Done, is_node, calls_at, world_at_node, standing_at}
@@ -222,7 +223,7 @@ module _ {C S : Type 0} {key_size signature_size : ℕ} {key : C → List ℕ} {
         (subst Answered before answered)).1
         (was_written later (command.Ask asker place, reply.Ask (Some frame)) asked
         (subst Written before written.1))
-        r (frames.frame_may_want_memory wire (standing_at wire size node done replier) frame
+        r (frame_may_want_memory wire (standing_at wire size node done replier) frame
         (as_nanos now)) is.1 written.0 sent is_reply
     reply_for done answered c r written is = tt
 

@@ -18,7 +18,8 @@ use Rattle.p2p_directory.specs.declared.node.exchanged.Exchanged.TheVariants as 
 use Rattle.p2p_directory.specs.declared.node.received.Received.{Received}
 use Rattle.p2p_directory.specs.declared.node.received.Received.TheVariants as received
 use Rattle.p2p_directory.specs.Received.{Wire, Standing, FrameOutcome, read_at, received_at, verdicts_of}
-use Rattle.p2p_directory.specs.Received.{ask_frame_at, only, applying, replied, taken, frame_may_want_memory}
+use Rattle.p2p_directory.specs.Received.{ask_frame_at, only, applying, replied, taken}
+use Rattle.p2p_directory.proofs.Nodes.Frames.{frame_may_want_memory}
 use Rattle.p2p_directory.specs.Exchange.{ExchangeOutcome, judged_at, replied_at, asked_at, exchanged_at, IsCarried}
 use Rattle.p2p_directory.specs.Exchange.{HasSpelling, HaveSpelling, CanBeReplied, CanBeSpelled, AnswersAsk, TakesReply}
 use Rattle.p2p_directory.specs.Exchange.{Exchanges, IsExchangeAnswer, infos_applied, exchange_may_want_memory, Carries}

@@ -15,9 +15,14 @@ use Rattle.p2p_tracker.specs.Calls.{Call}
 use Rattle.p2p_tracker.specs.Calls.Call.{Update}
 use Rattle.p2p_directory.specs.Received as frames
 use Rattle.p2p_directory.specs.Received.{Wire, Standing, FrameOutcome, applies, received_at, read_at}
-use Rattle.p2p_directory.specs.Received.{greeted, replied, taken, applied_with}
+use Rattle.p2p_directory.specs.Received.{greeted, replied, taken, applied_with, verdicts_of}
 use Rattle.p2p_directory.specs.Nodes.{calls_with}
 use Rattle.p2p_directory.specs.Network.{infos_of_frame, infos_of_reading}
+
+-- memory may be wanted for a frame, by the signatures of the keys
+abbrev pub frame_may_want_memory : {C S : Type 0} → Wire C S → Standing C S → List ℕ → ℕ → Bool
+frame_may_want_memory wire node frame now =
+    frames.frame_may_want_memory_by wire (verdicts_of node.judge) node frame now
 
 module _ {C S : Type 0} (wire : Wire C S) (node : Standing C S) (now : ℕ) where
   -- these infos are applied with the answer, if any are

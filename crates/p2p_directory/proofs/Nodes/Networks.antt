@@ -22,7 +22,6 @@ use Rattle.p2p_directory.specs.declared.run.commands.Command.{Command}
 use Rattle.p2p_directory.specs.declared.run.commands.Reply.{Reply}
 use Rattle.p2p_tracker.specs.Calls.{Call}
 use Rattle.p2p_directory.specs.Run.{call_of}
-use Rattle.p2p_directory.specs.Received as frames
 use Rattle.p2p_directory.specs.Received.{Wire, verdicts_of}
 use Rattle.p2p_directory.specs.Nodes.{Made, NodeView, NodeStandsAt, IsReceivedAt, IsAskedAt, IsSteppedAt, IsStepAnswer}
 use Rattle.p2p_directory.specs.Nodes.{IsSame, KeepsRoom, has_slot, named_peer}
@@ -35,7 +34,7 @@ use Rattle.p2p_directory.specs.Private.Networks.{reply_to_ask, has_room, HasRoom
 use Rattle.p2p_directory.specs.Private.Networks.{KeepSlots, IsAnsweredAt, IsNodeServedAt, ExchangesAmong}
 use Rattle.p2p_directory.specs.Private.Serving.{reserved_peer}
 use Rattle.p2p_directory.proofs.Nodes.Among.{not_two}
-use Rattle.p2p_directory.proofs.Nodes.Frames.{calls_after_frame}
+use Rattle.p2p_directory.proofs.Nodes.Frames.{calls_after_frame, frame_may_want_memory}
 use Rattle.p2p_directory.proofs.Nodes.Standing.{stands_same}
 
 module _ {C S : Type 0} (wire : Wire C S) (size : ℕ) (node : ℕ → Made C S) (done : Done C S)
@@ -178,7 +177,7 @@ module _ {C S : Type 0} (wire : Wire C S) (size : ℕ) (node : ℕ → Made C S)
       let calls = calls_at wire size node done i in
       let at_i = standing_at wire size node done i in
       let same = calls_after_frame wire at_i (as_nanos now) calls frame
-      (frames.frame_may_want_memory wire at_i frame (as_nanos now)) r h.answer in
+      (frame_may_want_memory wire at_i frame (as_nanos now)) r h.answer in
       record {
         answer = (is_there i lt, h.answer);
         stand = set_more (command.Frame i frame now) (reply.Frame r) e2 lt

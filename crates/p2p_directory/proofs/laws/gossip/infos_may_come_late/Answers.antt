@@ -1,4 +1,4 @@
-use Rattle.p2p_directory.specs.Received.{frame_may_want_memory}
+use Rattle.p2p_directory.proofs.Nodes.Frames.{frame_may_want_memory}
 use Rattle.p2p_directory.specs.Nodes.{standing_in}
 use Rattle.p2p_directory.specs.Run.{world_after}
 use Rattle.p2p_directory.proofs.LawsOfGossip.Late

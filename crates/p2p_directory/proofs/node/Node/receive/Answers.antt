@@ -1,7 +1,8 @@
 use Rattle.std.proofs.Common.{refl}
 use Rattle.std.specs.Duration.{as_nanos}
 use Rattle.p2p_directory.specs.Nodes.{made_of, standing_in}
-use Rattle.p2p_directory.specs.Received.{verdicts_of, frame_may_want_memory}
+use Rattle.p2p_directory.specs.Received.{verdicts_of}
+use Rattle.p2p_directory.proofs.Nodes.Frames.{frame_may_want_memory}
 use Rattle.p2p_directory.specs.Run.{world_after}
 use Rattle.p2p_directory.proofs.LawsOfGossip.Late
 use Rattle.p2p_directory.proofs.Nodes.Worlds.{received_in}
