@@ -321,9 +321,7 @@ room_for_grows {C} {S} cmp es es2 (command.Call i x) same more h = λ e lt.
         option_map_or (has_slot cmp v) o true ≡ true → option_map_or (has_slot cmp v2) o true ≡ true
     grown v v2 None more h = refl
     grown v v2 (Some q) more h = more q h
-room_for_grows cmp es es2 (command.Ask i place) same more h = tt
-room_for_grows cmp es es2 (command.Frame i frame now) same more h = tt
-room_for_grows cmp es es2 (command.Exchange asker replier place now now2) same more h = tt
+room_for_grows cmp es es2 _ same more h = tt
 
 -- .. or just the same
 pub room_for_stays : {C S : Type 0} (cmp : C → C → Ordering) (es es2 : List (NodeView C S))
