@@ -1,11 +1,14 @@
 #!/usr/bin/env python3
-"""Counts the definitions that a contract reaches: tools/reached.py [-v] run run_pair ..
+"""Counts the definitions that a contract reaches: tools/reached.py [-v | --text] run run_pair ..
 
 A word is the name of a public function of p2p_directory. From the words of its clauses, each definition in a specs/ of
 this repository that one of them names is reached, and from its text further ones. What is counted is the lines of
 these definitions, without comments and blank lines; types of the code and definitions of std are not counted. With -v
-each definition is printed, too.
+each definition is printed, too. With --text they are printed as one page: the contract, the definitions that its clauses
+name, those that these name, and so on, each once. Each has its comment, with the one before that it goes on from if it
+begins with two dots, and above that where it stands, and in which modules, whose parameters it has.
 """
+import collections
 import pathlib
 import re
 import sys
@@ -29,25 +32,62 @@ def imports(text):
     return names, modules
 
 
+class Definition:
+    """A definition: its file with its line there, the modules that it is in, the comments above it, and its lines."""
+
+    def __init__(self, file, number, modules, comments, known):
+        self.file, self.number, self.modules, self.comments, self.known = file, number, modules, comments, known
+        self.lines, self.text = [], []
+
+    def page(self):
+        """Where it stands, its comments, and its text with the comments in it, at the left margin."""
+        margin = len(self.lines[0]) - len(self.lines[0].lstrip())
+        at = f"-- [{self.file.relative_to(CRATES.parent)}:{self.number}]"
+        above = [at, *(f"-- in {module}" for module in self.modules), *self.comments]
+        return "\n".join([*above, *(line[margin:] for line in self.text)])
+
+
 def definitions():
-    """Each definition by its whole name: the lines of its text, the imports of its file, and its module."""
+    """Each definition by its whole name, with the module of its file."""
     found = {}
-    for file in CRATES.glob("*/specs/**/*.antt"):
+    for file in sorted(CRATES.glob("*/specs/**/*.antt")):
         module = ".".join(("Rattle", *file.relative_to(CRATES).with_suffix("").parts))
-        text = file.read_text()
-        known, name, depth = imports(text), None, 0
-        for line in text.splitlines():
-            bare = line.strip()
-            if not bare:
-                name = None
-            elif not bare.startswith(("--", "use ", "module ", "pub use ", "pub mod ", "mod ")):
-                indent = len(line) - len(line.lstrip())
-                if IS_HEAD.match(line) and (name is None or indent <= depth):
-                    name, depth = f"{module}.{HEAD.match(line)[1]}", indent
-                    found[name] = ([], known, module)
-                if name:
-                    found[name][0].append(line)
+        for name, definition in definitions_of(file):
+            found[f"{module}.{name}"] = (definition, module)
     return found
+
+
+def definitions_of(file):
+    """Each definition of a file, with its name there."""
+    text = file.read_text()
+    known, of, depth, start = imports(text), None, 0, 0
+    modules, heads, comments, chain = [], [], [], []
+    for number, line in enumerate(text.splitlines(), 1):
+        bare, indent = line.strip(), len(line) - len(line.lstrip())
+        if heads or bare.startswith("module "):
+            # A head of a module may have more than one line.
+            start = start if heads else indent
+            heads.append(bare)
+            if bare.endswith(" where"):
+                modules = [*(it for it in modules if it[0] < start), (start, " ".join(heads))]
+                heads = []
+            continue
+        if not bare:
+            of, comments = None, []
+        elif bare.startswith("--"):
+            comments.append(line)
+        elif not bare.startswith(("use ", "pub use ", "pub mod ", "mod ")):
+            if IS_HEAD.match(line) and (of is None or indent <= depth):
+                own, depth = [it.strip() for it in comments], indent
+                chain = chain + own if own and own[0].startswith("-- ..") else own or chain
+                around = [head for at, head in modules if at < indent]
+                of = Definition(file, number, around, chain if own else [], known)
+                comments = []
+                yield HEAD.match(line)[1], of
+            if of:
+                of.text += [*comments, line]
+                of.lines.append(line)
+            comments = []
 
 
 def contract(function):
@@ -61,26 +101,40 @@ def contract(function):
 
 
 def reached(function):
-    """The lines of each definition that the contract of a function reaches."""
+    """Each definition that the contract of a function reaches, by its whole name, in the order of reaching."""
     known, seen = definitions(), {}
-    todo = [(*contract(function), "")]
+    todo = collections.deque([(*contract(function), "")])
     while todo:
-        text, (names, modules), module = todo.pop()
+        text, (names, modules), module = todo.popleft()
         for word in WORD.findall(text):
             first, _, second = word.partition(".")
             of_module = f"{modules[first]}.{second}" if first in modules else None
             for whole in (f"{module}.{word}", f"{module}.{first}", names.get(word), names.get(first), of_module):
                 if whole in known and whole not in seen:
-                    lines, imported, home = known[whole]
-                    seen[whole] = len(lines)
-                    todo.append(("\n".join(lines), imported, home))
+                    definition, home = known[whole]
+                    seen[whole] = definition
+                    todo.append(("\n".join(definition.lines), definition.known, home))
     return seen
 
 
-for word in sys.argv[1:]:
-    if word != "-v":
-        counted = reached(word)
-        if "-v" in sys.argv:
-            for name, lines in sorted(counted.items()):
-                print(f"{lines:5} {name}")
-        print(f"{word}: {sum(counted.values())} lines of {len(counted)} definitions")
+def counted(function, definitions):
+    """How many lines and definitions the contract of a function reaches, in words."""
+    return f"{function}: {sum(len(it.lines) for it in definitions)} lines of {len(definitions)} definitions"
+
+
+def main():
+    words = sys.argv[1:]
+    for function in (it for it in words if it not in ("-v", "--text")):
+        found = reached(function)
+        if "--text" in words:
+            print(f"-- {counted(function, found.values())}\n\n{contract(function)[0]}\n")
+            print("\n\n".join(it.page() for it in found.values()))
+            continue
+        if "-v" in words:
+            for name, definition in sorted(found.items()):
+                print(f"{len(definition.lines):5} {name}")
+        print(counted(function, found.values()))
+
+
+if __name__ == "__main__":
+    main()
