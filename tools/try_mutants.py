@@ -1,9 +1,11 @@
 #!/usr/bin/env python3
 """Tries mutants function by function: applies each to a copy of its crate, and has the prover check the functions that it
 changes, with those that these call, over the libraries below the crate. `rt ci` and `rt must-fail` have the whole crate
-proved once more for the first mutant of each crate. Prints the clause that refused each, and fails where one is not
-refused, does not apply or compile, or is refused for another reason than a contract. As a control, the same functions of
-each crate are checked first as they are: if they are not proved, no mutant of that crate counts.
+proved once more for the first mutant of each crate. Prints what refused each: a clause, an invariant or a condition, and
+whether the prover has no proof of it, or the one that is written fits no more. Fails where one is not refused, does not
+apply or compile, or is refused by none of these: where only lemmas, or answers that name what it took away, don't fit. As
+a control, the same functions of each crate are checked first as they are: if they are not proved, no mutant of that crate
+counts.
 
 usage: tools/try_mutants.py [--jobs N] [--until END] [--keep FOLDER] [FILE..], by default those of crates/*/must-fail/, as
 many crates at a time as there are processors. The libraries are those that `rt ci` or `rt check` left in crates/*/out/rlib.
@@ -34,7 +36,13 @@ ERROR = re.compile(r"(?:\./)?(\S+?):\d+:\d+: error: (?:(`[^`]*`): )?(.*)")
 # What the prover says of a text that it can't read.
 UNREAD = re.compile(r"is not in scope|has no field|is no name|operand is missing|expected the end|cannot continue")
 # What it says of a file of proofs that names what a mutant took away, or what rests on such a name.
-MOVED = re.compile(r"(?:\./)?proofs/.*(?:has no field|is not in scope|has no `|was not admitted|were? not checked)")
+MOVED = re.compile(r"has no field|is not in scope|has no `|can be named|is no name|was not admitted|were? not checked")
+# A goal that it has no proof of, by the note on it, which mostly ends with its name.
+NOTE = re.compile(r"note: src/\S+: (?:.*\(`([^`]+)`\)|.*not proved)")
+# What the goals of a function are of, by their names, the first that fits: of a clause of it, of an invariant of a type or a
+# loop, or of a condition, of a call or of an operation such as a sum.
+KINDS = (("a clause", re.compile(r"returns\b")), ("an invariant", re.compile(r"invariant_of\b|loop\b")), ("a condition", re.compile("")))
+REFUSED = re.compile(r"refused by (%s)" % "|".join(kind for kind, _ in KINDS))
 
 
 def functions_of(edit, crate):
@@ -146,8 +154,26 @@ def told_of(lines):
     return [line for line in lines if line.startswith("note: src/") or ERROR.match(line)]
 
 
-def refusal(status, lines):
-    """Returns the goal by which the prover refused a function, and why it didn't, of which one is None."""
+def goal_of(line, crate):
+    """Returns the goal of a function that a line of a check is of, and whether an answer to it is written, or None. Lemmas
+    aren't goals, nor is a goal refused whose answer only names what isn't there any more."""
+    if note := NOTE.match(line):
+        return note[1] or "", False
+    error = ERROR.match(line)
+    if not error or not error[2]:
+        return None
+    goal, file = error[2].strip("`"), error[1]
+    if file.startswith("src/"):
+        return goal, False
+    answers = crate / file
+    if answers.name != "Answers.antt" or MOVED.search(error[3]) or not answers.is_file():
+        return None
+    is_goal = re.search(rf"(?m)^pub {re.escape(goal)} : goal\.", answers.read_text(encoding="utf-8"))
+    return (goal, True) if is_goal else None
+
+
+def refusal(status, lines, crate):
+    """Returns what of a function refused it, with the line that says so, and why it isn't refused, of which one is None."""
     if status == 0:
         return None, "it is proved"
     unread = next((line for line in lines if is_unread(line)), None)
@@ -157,38 +183,42 @@ def refusal(status, lines):
     is_judged = int(counts[2]) < int(counts[1]) if counts else lines[-1].startswith("logic=not-proved")
     if status != 1 or not is_judged:
         return None, "\n".join(["the prover didn't judge it:", *lines[-6:]])
-    told = told_of(lines)
-    by_goal = [line for line in told if not MOVED.match(line)]
-    if not by_goal:
-        return None, "\n".join(["only a file of proofs names what it took away:", *(told or lines[-6:])])
-    notes = [line for line in by_goal if line.startswith("note: ")]
-    by_clause = [line for line in notes if "what the function ensures" in line]
-    return [*by_clause, *notes, *by_goal][0], None
+    found = []
+    for line in told_of(lines):
+        if goal := goal_of(line, crate):
+            kind = next(at for at, (_, names) in enumerate(KINDS) if names.match(goal[0]))
+            # First what has no proof, by the kinds in their order.
+            found.append((goal[1], kind, len(found), line))
+    if not found:
+        return None, "\n".join(["only files of proofs don't fit it:", *(told_of(lines) or lines[-6:])])
+    fits_no_more, kind, _, text = min(found)
+    by = KINDS[kind][0] + (", whose written proof fits no more" if fits_no_more else ", of which there is no proof")
+    return f"{by}: {text}", None
 
 
 def tried(edit, work, named, kit):
     """Returns whether the prover refuses a mutant, and what to say of it."""
     crate = ROOT / "crates" / crate_of(edit)
     texts, fault = applied(edit, crate)
-    goal = None
+    by = None
     if not fault:
-        goal, fault = refusal(*checked(functions_of(edit, crate), crate, texts, work, named, kit))
-    return not fault, f"{crate.name}/{edit.stem}: {f'NOT REFUSED: {fault}' if fault else f'refused: {goal[:200]}'}"
+        by, fault = refusal(*checked(functions_of(edit, crate), crate, texts, work, named, kit), crate)
+    return not fault, f"{crate.name}/{edit.stem}: {f'NOT REFUSED: {fault}' if fault else f'refused by {by[:250]}'}"
 
 
 def tried_in_turn(edits, places, named, kit):
     """Tries the mutants of a crate in turn, each over what the checks before it left, the first of which is the control.
-    Keeps each refusal at its place, if there are any, and returns how many were refused."""
-    refused = 0
+    Keeps each refusal at its place, if there are any, and returns what is said of those that were refused."""
+    refused = []
     with tempfile.TemporaryDirectory() as work:
         fault = control(edits, ROOT / "crates" / crate_of(edits[0]), work, named, kit)
         if fault:
             print(fault, flush=True)
-            return 0
+            return []
         for edit in edits:
             well, text = tried(edit, work, named, kit)
             print(text, flush=True)
-            refused += well
+            refused += [text] * well
             if well and places:
                 places[edit].parent.mkdir(parents=True, exist_ok=True)
                 places[edit].write_text(text, encoding="utf-8")
@@ -244,17 +274,20 @@ def main():
     edits = [it.resolve() for it in given.files] or sorted(ROOT.glob("crates/*/must-fail/*.edit"))
     places = {it: place_of(it, given.keep, named, printed("version")) for it in edits} if given.keep else {}
     left = [it for it in edits if not (places and places[it].is_file())]
-    for edit in (it for it in edits if it not in left):
-        print(f"{places[edit].read_text(encoding='utf-8')} (kept)")
+    refused = [places[it].read_text(encoding="utf-8") for it in edits if it not in left]
+    for text in refused:
+        print(f"{text} (kept)")
     with ThreadPoolExecutor(given.jobs) as pool:
         for name in (it for it in named if it in map(crate_of, left)):
             if given.until:
                 wait_for(below(name, named), given.until)
             of_crate = [it for it in left if crate_of(it) == name]
             tries.append(pool.submit(tried_in_turn, of_crate, places, named, kit))
-        refused = len(edits) - len(left) + sum(it.result() for it in tries)
-    print(f"{refused} of {len(edits)} mutants refused")
-    return 0 if edits and refused == len(edits) else 1
+        refused += [text for it in tries for text in it.result()]
+    kinds = [REFUSED.search(text)[1] for text in refused]
+    of_each = ", ".join(f"{kinds.count(kind)} by {kind}" for kind, _ in KINDS)
+    print(f"{len(refused)} of {len(edits)} mutants refused: {of_each}")
+    return 0 if edits and len(refused) == len(edits) else 1
 
 
 if __name__ == "__main__":
