@@ -18,15 +18,14 @@ ghost use Rattle.p2p_directory.specs.Nodes.{AreValues, AsksWith, TellsValues};
 ghost use Rattle.p2p_directory.specs.Exchange.{HasSpelling, HaveSpelling};
 ghost use Rattle.p2p_directory.specs.Private.Frames.{fault_answer};
 
-use crate::node::decoded::{Decoded, are_equal};
 use crate::node::Node;
+use crate::node::decoded::{Decoded, are_equal};
 use crate::node::received::{Answer, Miscounted, Received};
 use bytes::Bytes;
-use p2p_discovery::codec::{CodecError, PublicKey, Read};
+use p2p_discovery::codec::{CodecError, PublicKey, Read, Write};
 use p2p_discovery::discovery::{BitVec, Info, Infos, Payload};
 use std::alloc::{AllocError, Global};
 use std::time::Duration;
-use p2p_discovery::codec::Write;
 
 impl<C: PublicKey> Node<C> {
     // What the node asks with: a frame of its bits of the set at a position, or `None` if there is

@@ -184,12 +184,7 @@ impl<C: PublicKey> Network<C> {
         match command {
             NetworkCommand::Call(node, command) => step(&mut self.nodes, node, command),
             NetworkCommand::Ask(node, place) => ask(&self.nodes, node, place),
-            NetworkCommand::Frame(node, frame, now) => receive(
-                &mut self.nodes,
-                node,
-                frame,
-                now,
-            ),
+            NetworkCommand::Frame(node, frame, now) => receive(&mut self.nodes, node, frame, now),
             NetworkCommand::Exchange {
                 asker,
                 replier,
@@ -347,10 +342,7 @@ pub fn run_network<C: PublicKey>(
         [] commands.items run.replies.items)) }
 {
     let mut replies = Vec::with_capacity(alloc, commands.len())?;
-    let Network {
-        mut nodes,
-        room,
-    } = Network::new(alloc, setups)?;
+    let Network { mut nodes, room } = Network::new(alloc, setups)?;
     if make_room(&mut nodes, &commands).is_err() {
         Network { nodes, room }.finish();
         return Err(AllocError);

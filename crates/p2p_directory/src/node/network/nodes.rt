@@ -72,11 +72,7 @@ fn room_at<C: PublicKey>(
 }
 
 /// Replaces one of the network's nodes by another, and returns the old one.
-pub fn swap_at<C: PublicKey>(
-    nodes: &mut [Node<C>],
-    node: usize,
-    new: Node<C>,
-) -> Node<C>
+pub fn swap_at<C: PublicKey>(nodes: &mut [Node<C>], node: usize, new: Node<C>) -> Node<C>
     requires { node < length nodes.old }
     ensures rest { nodes.new ≡ slice_set nodes.old node new }
     ensures old { result ≡ slice_index_or nodes.old node result }
@@ -86,10 +82,7 @@ pub fn swap_at<C: PublicKey>(
 
 /// Serves one command among the network's nodes, if there is a slot for the reservation that it
 /// may be granted.
-pub fn serve<C: PublicKey>(
-    nodes: &mut [Node<C>],
-    command: NetworkCommand<C>,
-) -> NetworkReply<C>
+pub fn serve<C: PublicKey>(nodes: &mut [Node<C>], command: NetworkCommand<C>) -> NetworkReply<C>
     requires room { HasRoomFor C.cmp nodes.old command }
     ensures answered { let wire = wire_of C.verifies C.FixedBytes C.Signature.FixedBytes in
         IsNetworkAnswered C.cmp wire command result
@@ -116,11 +109,7 @@ pub fn serve<C: PublicKey>(
 }
 
 // One of the network's nodes serves a command of a run.
-fn call<C: PublicKey>(
-    nodes: &mut [Node<C>],
-    node: usize,
-    command: Command<C>,
-) -> NetworkReply<C>
+fn call<C: PublicKey>(nodes: &mut [Node<C>], node: usize, command: Command<C>) -> NetworkReply<C>
     requires room { HasRoomFor C.cmp nodes.old (NetworkCommand.Call node command) }
     ensures answered { let wire = wire_of C.verifies C.FixedBytes C.Signature.FixedBytes in
         IsNetworkAnswered C.cmp wire (NetworkCommand.Call node command) result
@@ -236,14 +225,7 @@ pub fn exchange<C: PublicKey>(
     if asker >= nodes.len() || replier >= nodes.len() || asker == replier {
         return NetworkReply::NoNode;
     }
-    NetworkReply::Exchange(exchange_between(
-        nodes,
-        asker,
-        replier,
-        place,
-        asker_now,
-        replier_now,
-    ))
+    NetworkReply::Exchange(exchange_between(nodes, asker, replier, place, asker_now, replier_now))
 }
 
 // Two of the network's nodes exchange infos.

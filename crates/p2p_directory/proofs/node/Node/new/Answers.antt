@@ -44,8 +44,7 @@ invariant_of-result g c =
     let made = c.in_ok-directory.ensures in
     let v : ServerView g.row.C.Denot g.row.C-Signature.Denot = record { directory = c.in_ok-directory.directory; slots = c.new.result } in
     let at = stands_at_start s v (search rules) made.config made.sets made.blocks made.cooldowns made.records
-    (λ q. ap (λ slots. held_in cmp slots q) c.new.ensures) in
-    (
+    (λ q. ap (λ slots. held_in cmp slots q) c.new.ensures) in (
       c.requires.bits,
       rw c.new-server.ensures (subst (AreSlots cmp) (sym c.new.ensures) (no_slots cmp)),
       record {

@@ -18,16 +18,16 @@ unnamed (command.Release p) dial listen release = absurd (release p refl)
 unnamed x dial listen release = refl
 
 pub returns-in_default : goal.returns-in_default
-returns-in_default g c = 
+returns-in_default g c =
     let none = unnamed c.args.command c.in_default.not-Dial c.in_default.not-Listen c.in_default.not-Release in record {
-  stepped = λ bootstrappers myself cfg calls at.
-      let h = c.serve.ensures.served bootstrappers myself cfg calls at in
-      record { answer = inl h.answer; left = h.left };
-  directory = λ no. ap (λ v. v.directory) (c.serve.ensures.unchanged no);
-  held = λ no q. ap (λ v. held_in g.C.Ord.cmp v.slots q) (c.serve.ensures.unchanged no);
-  room = λ q. c.serve.ensures.slots q
-      ∙ ap (λ o. if is_named g.C.Ord.cmp o q then is_some (held_in g.C.Ord.cmp c.serve.new.self.slots q)
-      else has_slot g.C.Ord.cmp c.args.self.now.slots q) (sym none);
-  ordered = c.serve.ensures.ordered
-      (subst (λ v. AreSlots g.C.Ord.cmp v.slots) c.self.view_is c.self.invariant.1);
-}
+      stepped = λ bootstrappers myself cfg calls at.
+          let h = c.serve.ensures.served bootstrappers myself cfg calls at in
+          record { answer = inl h.answer; left = h.left };
+      directory = λ no. ap (λ v. v.directory) (c.serve.ensures.unchanged no);
+      held = λ no q. ap (λ v. held_in g.C.Ord.cmp v.slots q) (c.serve.ensures.unchanged no);
+      room = λ q. c.serve.ensures.slots q
+          ∙ ap (λ o. if is_named g.C.Ord.cmp o q then is_some (held_in g.C.Ord.cmp c.serve.new.self.slots q)
+          else has_slot g.C.Ord.cmp c.args.self.now.slots q) (sym none);
+      ordered = c.serve.ensures.ordered
+          (subst (λ v. AreSlots g.C.Ord.cmp v.slots) c.self.view_is c.self.invariant.1);
+    }
