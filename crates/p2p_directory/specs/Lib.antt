@@ -23,7 +23,6 @@ pub mod Network
 pub mod Pairs
 -- What is held of grants.
 pub mod Held
--- The step of one accepted call: the main law and other laws alone speak of it.
 -- When an answer of `dialable` stands: what `run` says of dials rests on it.
 pub use Rattle.p2p_tracker.specs.Dials
 -- Laws of whole runs. What `run` says of its replies together is in `Run`, what networks promise in
