@@ -380,7 +380,8 @@ impl<C: PublicKey> Directory<C> {
     }
 
     // Reserves the peer in the directory at the time `now` if that may be granted: for a dial if
-    // `dialer`, else inbound.
+    // `dialer`, else inbound. It is compiled once for either.
+    #[inline(always)]
     fn reserve(
         &mut self,
         peer: &C,

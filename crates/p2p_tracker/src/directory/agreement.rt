@@ -1,8 +1,7 @@
 //! What holds between calls.
 
-ghost use Rattle.std.specs.Prelude.{ℕ, ◌≡◌, ◌≤◌, true, false, IfSome, is_some, length, map, not};
-ghost use Rattle.std.specs.Prelude.{slice_get};
-ghost use Rattle.std.specs.Option.{option_map, option_map_or};
+ghost use Rattle.std.specs.Prelude.{◌≡◌, ◌≤◌, true, false, IfSome, is_some, length, map};
+ghost use Rattle.std.specs.Option.{option_map_or};
 ghost use Rattle.std.specs.List.Sorted.{IsStrictlySortedBy};
 ghost use Rattle.std.specs.Ordering.{nat_cmp};
 
@@ -10,7 +9,7 @@ use crate::directory::Directory;
 use p2p_discovery::codec::PublicKey;
 
 impl<C: PublicKey> Directory<C> {
-    ghost use Rattle.p2p_tracker.specs.Directory.{is_named_of, bit_vec_at, wants_in};
+    ghost use Rattle.p2p_tracker.specs.Directory.{is_named_of};
     ghost use Rattle.p2p_tracker.specs.Seen.{record_of, cooldown_of};
     ghost use Rattle.p2p_tracker.specs.Cooldowns.{reservable_from, dialable_from};
     ghost use Rattle.p2p_tracker.specs.Record.{is_deletable, is_myself};
@@ -26,9 +25,7 @@ impl<C: PublicKey> Directory<C> {
     /// - one key, the local one, has the address `Myself`, and its record is persistent;
     /// - at most `max_sets` sets are retained, in ascending order of index;
     /// - no record is deletable;
-    /// - each record has its peer's cooldown, or the epoch twice if there is none;
-    /// - for each primary peer in order, the bits of a retained set, which
-    ///   [`Directory::get_random_bit_vec`] returns, are the opposite of want.
+    /// - each record has its peer's cooldown, or the epoch twice if there is none.
     pub fn agrees(&self)
         ensures counts { (q : C) → IfSome (record_of C.cmp self.now q) (λ r.
             (r.primary_sets ≡ set_count C.cmp Role.Primary q self.now.sets)
@@ -47,10 +44,6 @@ impl<C: PublicKey> Directory<C> {
             is_myself r.address ≡ true → r.persistent ≡ true)) }
         ensures few { length self.now.sets ≤ self.now.config.max_sets }
         ensures ascending { IsStrictlySortedBy nat_cmp (map (λ set. set.index) self.now.sets) }
-        ensures bits { (place : ℕ) → bit_vec_at C.cmp self.now place ≡ option_map (λ set. record {
-          index = set.index;
-          bits = map (λ q. not (wants_in C.cmp self.now q)) set.primary;
-        }) (slice_get self.now.sets place) }
     {
         let _count = self.records.len();
         self.sets.agrees();

@@ -78,6 +78,7 @@ impl<C: PublicKey> Records<C> {
     /// Reserves the peer among the directory's records at the time `now` if that may be granted,
     /// and stores the times of its cooldown: for a dial if `dialer`, else inbound. One search
     /// serves both. Returns whom the reservation is for; if it isn't granted, nothing has changed.
+    #[inline(always)]
     pub fn reserve(
         &mut self,
         cooldowns: &mut Cooldowns<C>,
@@ -258,6 +259,7 @@ fn connect_record<C: PublicKey>(found: &mut Record<C>, dialer: bool)
 // Whom a reservation that is asked for at the time `now` is for, by the peer's record among the
 // directory's, if it is granted: for a dial if `dialer`, else inbound.
 #[tactic(auto, unfolding(crate::specs::Private::Dialling::granted_of))]
+#[inline(always)]
 fn granted_to<C: PublicKey>(
     found: &Record<C>,
     peer: &C,
