@@ -1,5 +1,5 @@
 -- Serving one command: from wherever the calls accepted before led, the reply is the answer.
-use Rattle.std.specs.Prelude.{◌≡◌, ◌⊎◌, ◌<◌, ◌^◌, Bool, true, false, List, Option}
+use Rattle.std.specs.Prelude.{◌≡◌, ◌⊎◌, ◌<◌, ◌^◌, Bool, true, false, List, Option, Result, Ok, Err}
 use Rattle.std.specs.Option.{option_map_or}
 use Rattle.std.specs.declared.cmp.Ordering.{Ordering}
 use Rattle.std.specs.declared.time.Duration.{Duration}
@@ -45,11 +45,11 @@ abbrev pub reserving : {C S : Type 0} → Bool → C → Duration → Duration �
 reserving true p now draw = command.Dial p now draw
 reserving false p now draw = command.Listen p now draw
 
--- a reservation was granted, by the reply
-abbrev pub grants : {C S : Type 0} → Reply C S → Bool
-grants (reply.Dial granted) = granted
-grants (reply.Listen granted) = granted
-grants _ = false
+-- the reply to either, by whether it is granted
+abbrev pub reserved_reply : {C S E : Type 0} → Bool → Result Bool E → Reply C S
+reserved_reply true (Ok granted) = reply.Dial granted
+reserved_reply false (Ok granted) = reply.Listen granted
+reserved_reply _ (Err e) = reply.OutOfMemory
 
 -- there is a slot for what the command may be granted
 abbrev pub has_slot_for : {C S : Type 0} → (C → C → Ordering) →

@@ -3,11 +3,12 @@
 ghost use Rattle.std.specs.Prelude.{◌≡◌, true, false, None, is_some};
 ghost use Rattle.p2p_directory.specs.Held.{AreHeld};
 ghost use Rattle.p2p_directory.specs.Private.Slots.{has_slot, held_in, AreSlots};
-ghost use Rattle.p2p_directory.specs.Private.Serving.{grants, has_slot_for, IsServed};
+ghost use Rattle.p2p_directory.specs.Private.Serving.{has_slot_for, IsServed};
 ghost use Rattle.p2p_directory.specs.Nodes.{TearsDownFew};
 ghost use Rattle.p2p_directory.specs.Run.{was_made};
 
 use crate::run::commands::{Command, Reply};
+use crate::run::server::reservations::replied;
 use crate::run::slots::Slots;
 use p2p_discovery::codec::PublicKey;
 use p2p_discovery::discovery::{BitVec, Info};
@@ -62,8 +63,8 @@ impl<C: PublicKey> Server<C> {
     {
         match command {
             Command::Track { index, peers } => self.track(index, peers),
-            Command::Dial { peer, now, draw } => self.dial(&peer, now, draw),
-            Command::Listen { peer, now, draw } => self.listen(&peer, now, draw),
+            Command::Dial { peer, now, draw } => replied(true, self.dial(&peer, now, draw)),
+            Command::Listen { peer, now, draw } => replied(false, self.listen(&peer, now, draw)),
             Command::Connect { peer, dialer } => self.connect(&peer, dialer),
             Command::Release(peer) => self.release(&peer),
             Command::UpdatePeers(infos) => self.update_peers(infos),
@@ -96,50 +97,6 @@ impl<C: PublicKey> Server<C> {
     {
         match self.directory.track(index, peers) {
             Ok(torn) => Reply::Track(torn),
-            Err(AllocError) => Reply::OutOfMemory,
-        }
-    }
-
-    /// Reserves the peer in the server's directory for a dial if that is granted, and replies.
-    pub fn dial(&mut self, peer: &C, now: Duration, draw: Duration) -> Reply<C>
-        requires room { has_slot C.cmp self.old.slots peer.now ≡ true }
-        ensures served { IsServed C.cmp (Command.Dial peer.now now draw)
-            result self.old self.new }
-        ensures unchanged { was_made result ≡ false → self.new ≡ self.old }
-        ensures slots { (q : C) →
-            has_slot C.cmp self.new.slots q ≡ has_slot C.cmp self.old.slots q }
-        ensures granted { grants result ≡ true →
-            is_some (held_in C.cmp self.new.slots peer.now) ≡ true }
-        ensures ordered { AreSlots C.cmp self.new.slots }
-    {
-        match self.directory.dial(peer, now, draw) {
-            Ok(Some(reservation)) => {
-                self.slots.put(reservation);
-                Reply::Dial(true)
-            }
-            Ok(None) => Reply::Dial(false),
-            Err(AllocError) => Reply::OutOfMemory,
-        }
-    }
-
-    /// Reserves the inbound peer in the server's directory if that is granted, and replies.
-    pub fn listen(&mut self, peer: &C, now: Duration, draw: Duration) -> Reply<C>
-        requires room { has_slot C.cmp self.old.slots peer.now ≡ true }
-        ensures served { IsServed C.cmp (Command.Listen peer.now now draw)
-            result self.old self.new }
-        ensures unchanged { was_made result ≡ false → self.new ≡ self.old }
-        ensures slots { (q : C) →
-            has_slot C.cmp self.new.slots q ≡ has_slot C.cmp self.old.slots q }
-        ensures granted { grants result ≡ true →
-            is_some (held_in C.cmp self.new.slots peer.now) ≡ true }
-        ensures ordered { AreSlots C.cmp self.new.slots }
-    {
-        match self.directory.listen(peer, now, draw) {
-            Ok(Some(reservation)) => {
-                self.slots.put(reservation);
-                Reply::Listen(true)
-            }
-            Ok(None) => Reply::Listen(false),
             Err(AllocError) => Reply::OutOfMemory,
         }
     }

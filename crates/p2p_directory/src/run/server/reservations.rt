@@ -1,11 +1,10 @@
 //! One command with a slot that is made for it, and removed if it is empty after it.
 
-ghost use Rattle.std.specs.Prelude.{◌≡◌, true, false, is_some, OnOk, OnErr, Some, ◌||◌};
+ghost use Rattle.std.specs.Prelude.{◌≡◌, true, false, is_some, Ok, OnOk, OnErr, Some, ◌||◌};
 ghost use Rattle.p2p_tracker.specs.Calls.{may_reserve};
 ghost use Rattle.p2p_directory.specs.Run.{call_of, was_made};
-ghost use Rattle.p2p_directory.specs.Private.Serving.{grants, has_slot_for, reserved_peer};
-ghost use Rattle.p2p_directory.specs.Private.Serving.{reserving, IsServed};
-ghost use Rattle.p2p_directory.specs.Private.Serving.{IsSteppedAlone};
+ghost use Rattle.p2p_directory.specs.Private.Serving.{has_slot_for, reserved_peer, reserving};
+ghost use Rattle.p2p_directory.specs.Private.Serving.{reserved_reply, IsServed, IsSteppedAlone};
 ghost use Rattle.p2p_directory.specs.Nodes.{is_named, named_peer};
 ghost use Rattle.p2p_directory.specs.Private.Slots.{has_slot, held_in};
 ghost use Rattle.p2p_directory.specs.Private.Slots.{AreSlots, KeepsSlots};
@@ -76,24 +75,30 @@ impl<C: PublicKey> Server<C> {
         if let Err(AllocError) = self.slots.make(*peer) {
             return Reply::OutOfMemory;
         }
-        let reply = self.reserve(dialer, peer, now, draw);
-        if is_granted(&reply) {
-            return reply;
+        let reserved = self.reserve(dialer, peer, now, draw);
+        if is_granted(&reserved) {
+            return replied(dialer, reserved);
         }
         self.slots.drop_empty(peer);
-        reply
+        replied(dialer, reserved)
     }
 
     // Reserves the peer in the server's directory if that is granted, in its slot: for a dial if
-    // `dialer`, else inbound.
-    fn reserve(&mut self, dialer: bool, peer: &C, now: Duration, draw: Duration) -> Reply<C>
+    // `dialer`, else inbound. Returns whether it was.
+    fn reserve(
+        &mut self,
+        dialer: bool,
+        peer: &C,
+        now: Duration,
+        draw: Duration,
+    ) -> Result<bool, AllocError>
         requires room { has_slot C.cmp self.old.slots peer.now ≡ true }
         ensures served { IsServed C.cmp (reserving dialer peer.now now draw)
-            result self.old self.new }
-        ensures unchanged { was_made result ≡ false → self.new ≡ self.old }
+            (reserved_reply dialer result) self.old self.new }
+        ensures unchanged { OnErr result (self.new ≡ self.old) }
         ensures slots { (q : C) →
             has_slot C.cmp self.new.slots q ≡ has_slot C.cmp self.old.slots q }
-        ensures granted { grants result ≡ true →
+        ensures granted { result ≡ Ok true →
             is_some (held_in C.cmp self.new.slots peer.now) ≡ true }
         ensures ordered { AreSlots C.cmp self.new.slots }
     {
@@ -101,6 +106,52 @@ impl<C: PublicKey> Server<C> {
             self.dial(peer, now, draw)
         } else {
             self.listen(peer, now, draw)
+        }
+    }
+
+    /// Reserves the peer in the server's directory for a dial if that is granted, in its slot.
+    /// Returns whether it was.
+    pub fn dial(&mut self, peer: &C, now: Duration, draw: Duration) -> Result<bool, AllocError>
+        requires room { has_slot C.cmp self.old.slots peer.now ≡ true }
+        ensures served { IsServed C.cmp (Command.Dial peer.now now draw)
+            (reserved_reply true result) self.old self.new }
+        ensures unchanged { OnErr result (self.new ≡ self.old) }
+        ensures slots { (q : C) →
+            has_slot C.cmp self.new.slots q ≡ has_slot C.cmp self.old.slots q }
+        ensures granted { result ≡ Ok true →
+            is_some (held_in C.cmp self.new.slots peer.now) ≡ true }
+        ensures ordered { AreSlots C.cmp self.new.slots }
+    {
+        match self.directory.dial(peer, now, draw) {
+            Ok(Some(reservation)) => {
+                self.slots.put(reservation);
+                Ok(true)
+            }
+            Ok(None) => Ok(false),
+            Err(refused) => Err(refused),
+        }
+    }
+
+    /// Reserves the inbound peer in the server's directory if that is granted, in its slot.
+    /// Returns whether it was.
+    pub fn listen(&mut self, peer: &C, now: Duration, draw: Duration) -> Result<bool, AllocError>
+        requires room { has_slot C.cmp self.old.slots peer.now ≡ true }
+        ensures served { IsServed C.cmp (Command.Listen peer.now now draw)
+            (reserved_reply false result) self.old self.new }
+        ensures unchanged { OnErr result (self.new ≡ self.old) }
+        ensures slots { (q : C) →
+            has_slot C.cmp self.new.slots q ≡ has_slot C.cmp self.old.slots q }
+        ensures granted { result ≡ Ok true →
+            is_some (held_in C.cmp self.new.slots peer.now) ≡ true }
+        ensures ordered { AreSlots C.cmp self.new.slots }
+    {
+        match self.directory.listen(peer, now, draw) {
+            Ok(Some(reservation)) => {
+                self.slots.put(reservation);
+                Ok(true)
+            }
+            Ok(None) => Ok(false),
+            Err(refused) => Err(refused),
         }
     }
 
@@ -123,12 +174,23 @@ impl<C: PublicKey> Server<C> {
     }
 }
 
-// Whether a reservation was granted by a command of the server.
-fn is_granted<C: PublicKey>(reply: &Reply<C>) -> bool
-    ensures { result ≡ grants reply.now }
+// Whether the server's directory granted a reservation.
+fn is_granted(reserved: &Result<bool, AllocError>) -> bool
+    ensures { result ≡ true → reserved.now ≡ Ok true }
 {
-    match reply {
-        Reply::Dial(granted) | Reply::Listen(granted) => *granted,
-        _ => false,
+    match reserved {
+        Ok(granted) => *granted,
+        Err(_) => false,
+    }
+}
+
+/// The server's reply to a dial if `dialer`, else to a listen, by whether it is granted.
+pub fn replied<C: PublicKey>(dialer: bool, reserved: Result<bool, AllocError>) -> Reply<C>
+    ensures { result ≡ reserved_reply dialer reserved }
+{
+    match reserved {
+        Ok(granted) if dialer => Reply::Dial(granted),
+        Ok(granted) => Reply::Listen(granted),
+        Err(AllocError) => Reply::OutOfMemory,
     }
 }
