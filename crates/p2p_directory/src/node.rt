@@ -35,6 +35,7 @@ mod pair;
 mod questions;
 mod received;
 mod setup;
+pub mod wire;
 
 /// A directory with its open reservations, the verifier of infos, and the limits under which frames
 /// are read. A contract sees these four, and for which peers there is a slot: room for a

@@ -9,7 +9,7 @@ ghost use Rattle.p2p_discovery.specs.Judgement.{judge_of, refusal, list_refusal}
 ghost use Rattle.p2p_discovery.specs.Judgement.{refusal_if, list_refusal_by};
 ghost use Rattle.p2p_discovery.specs.declared.discovery.Payload.TheVariants.{Peers};
 ghost use Rattle.p2p_tracker.specs.Directory.{bit_vec_at, infos_in};
-ghost use Rattle.p2p_directory.specs.Received.{wire_of, greeted, replied, taken, takes_room};
+ghost use Rattle.p2p_directory.specs.Received.{greeted, replied, taken, takes_room};
 ghost use Rattle.p2p_directory.specs.Received.{applies, told_with, are_miscounted, answered_by};
 ghost use Rattle.p2p_directory.specs.Received.{received_of, AreFew, first_verdict};
 ghost use Rattle.p2p_directory.specs.Received.{verdicts_of, IsWantOfMemory};
@@ -21,6 +21,7 @@ ghost use Rattle.p2p_directory.specs.Private.Frames.{fault_answer};
 use crate::node::Node;
 use crate::node::decoded::{Decoded, are_equal};
 use crate::node::received::{Answer, Miscounted, Received};
+use crate::node::wire::Frames;
 use bytes::Bytes;
 use p2p_discovery::codec::{CodecError, PublicKey, Read, Write};
 use p2p_discovery::discovery::{BitVec, Info, Infos, Payload};
@@ -31,8 +32,7 @@ impl<C: PublicKey> Node<C> {
     // What the node asks with: a frame of its bits of the set at a position, or `None` if there is
     // no such position.
     pub(super) fn ask_frame(&self, place: usize) -> Result<Option<Bytes>, AllocError>
-        ensures seen { AsksWith C.cmp (wire_of C.verifies C.FixedBytes C.Signature.FixedBytes)
-            place result self.now }
+        ensures seen { AsksWith C.cmp ⟦<C as Frames>⟧.wire place result self.now }
         ensures spelled { IfOk result (λ _.
             IfSome (bit_vec_at C.cmp self.now.directory place) HasSpelling) }
     {
@@ -50,11 +50,11 @@ impl<C: PublicKey> Node<C> {
 
     // Processes a frame that the node received at this time.
     pub(super) fn answer(&mut self, frame: Bytes, now: Duration) -> Received<C>
-        ensures seen { AnswersFrame C.cmp (wire_of C.verifies C.FixedBytes C.Signature.FixedBytes)
-            verdicts_of frame (as_nanos now) result self.old self.new }
+        ensures seen { AnswersFrame C.cmp ⟦<C as Frames>⟧.wire verdicts_of frame (as_nanos now)
+            result self.old self.new }
         ensures unchanged { applies result ≡ false → self.new ≡ self.old }
-        ensures values { TellsValues C.cmp (wire_of C.verifies C.FixedBytes C.Signature.FixedBytes)
-            C.IsValue C.Signature.IsValue frame (as_nanos now) result self.old }
+        ensures values { TellsValues C.cmp ⟦<C as Frames>⟧.wire C.IsValue C.Signature.IsValue frame
+            (as_nanos now) result self.old }
     {
         let alloc = self.server.directory().allocator();
         match Payload::<C>::decode_cfg(alloc, frame, &self.payload) {
@@ -75,17 +75,17 @@ impl<C: PublicKey> Node<C> {
         now: Duration,
         verdicts: &[bool],
     ) -> Result<Answer<C>, Miscounted>
-        ensures seen { let wire = wire_of C.verifies C.FixedBytes C.Signature.FixedBytes in
+        ensures seen { let wire = ⟦<C as Frames>⟧.wire in
             IfOk result (λ a. AnswersFrame C.cmp wire (given_verdicts verdicts.now) frame
             (as_nanos now) (received_of wire a) self.old self.new) }
-        ensures unchanged { let wire = wire_of C.verifies C.FixedBytes C.Signature.FixedBytes in
-            IfOk result (λ a. applies (received_of wire a) ≡ false → self.new ≡ self.old) }
-        ensures counted { let wire = wire_of C.verifies C.FixedBytes C.Signature.FixedBytes in
+        ensures unchanged { IfOk result (λ a. applies (received_of ⟦<C as Frames>⟧.wire a) ≡ false →
+            self.new ≡ self.old) }
+        ensures counted { let wire = ⟦<C as Frames>⟧.wire in
             let node = standing_of C.cmp wire self.old in
-            IfOk result (λ a. are_miscounted wire node frame verdicts.now ≡ true →
-            IsWantOfMemory (received_of wire a)) }
+            IfOk result (λ a. are_miscounted wire node frame verdicts.now ≡ true → IsWantOfMemory
+            (received_of wire a)) }
         ensures few { IfOk result AreFew }
-        ensures err { let wire = wire_of C.verifies C.FixedBytes C.Signature.FixedBytes in
+        ensures err { let wire = ⟦<C as Frames>⟧.wire in
             let node = standing_of C.cmp wire self.old in
             OnErr result (are_miscounted wire node frame verdicts.now ≡ true) }
         ensures err_same { OnErr result (self.new ≡ self.old) }
@@ -105,17 +105,17 @@ impl<C: PublicKey> Node<C> {
         now: Duration,
         verdicts: &[bool],
     ) -> Result<Answer<C>, Miscounted>
-        ensures seen { let wire = wire_of C.verifies C.FixedBytes C.Signature.FixedBytes in
+        ensures seen { let wire = ⟦<C as Frames>⟧.wire in
             IfOk result (λ a. AnswersFrame C.cmp wire (given_verdicts verdicts.now) decoded.frame
             (as_nanos now) (received_of wire a) self.old self.new) }
-        ensures unchanged { let wire = wire_of C.verifies C.FixedBytes C.Signature.FixedBytes in
-            IfOk result (λ a. applies (received_of wire a) ≡ false → self.new ≡ self.old) }
-        ensures counted { let wire = wire_of C.verifies C.FixedBytes C.Signature.FixedBytes in
+        ensures unchanged { IfOk result (λ a. applies (received_of ⟦<C as Frames>⟧.wire a) ≡ false →
+            self.new ≡ self.old) }
+        ensures counted { let wire = ⟦<C as Frames>⟧.wire in
             let node = standing_of C.cmp wire self.old in
             IfOk result (λ a. are_miscounted wire node decoded.frame verdicts.now ≡ true →
             IsWantOfMemory (received_of wire a)) }
         ensures few { IfOk result AreFew }
-        ensures err { let wire = wire_of C.verifies C.FixedBytes C.Signature.FixedBytes in
+        ensures err { let wire = ⟦<C as Frames>⟧.wire in
             let node = standing_of C.cmp wire self.old in
             OnErr result (are_miscounted wire node decoded.frame verdicts.now ≡ true) }
         ensures err_same { OnErr result (self.new ≡ self.old) }
@@ -138,13 +138,13 @@ impl<C: PublicKey> Node<C> {
     ) -> Result<Answer<C>, Miscounted>
         requires admitted { IsAdmitted C.IsValue C.Signature.IsValue self.old.limits payload }
         requires limit { self.old.limits.max_bit_vec < 2 ^ 32 }
-        ensures seen { let wire = wire_of C.verifies C.FixedBytes C.Signature.FixedBytes in
-            let o = answered_by wire verdicts.now (standing_of C.cmp wire self.old)
-            (as_nanos now) payload in
-            IfOk result (λ a. Answers C.cmp (takes_room o.answer) o (received_of wire a)
-            self.old self.new) }
-        ensures unchanged { let wire = wire_of C.verifies C.FixedBytes C.Signature.FixedBytes in
-            IfOk result (λ a. applies (received_of wire a) ≡ false → self.new ≡ self.old) }
+        ensures seen { let wire = ⟦<C as Frames>⟧.wire in
+            let o = answered_by wire verdicts.now (standing_of C.cmp wire self.old) (as_nanos now)
+            payload in
+            IfOk result (λ a. Answers C.cmp (takes_room o.answer) o (received_of wire a) self.old
+            self.new) }
+        ensures unchanged { IfOk result (λ a. applies (received_of ⟦<C as Frames>⟧.wire a) ≡ false →
+            self.new ≡ self.old) }
         ensures counted { IfOk result (λ _.
             length (infos_of_payload payload) ≡ length verdicts.now) }
         ensures few { IfOk result AreFew }
@@ -168,11 +168,10 @@ impl<C: PublicKey> Node<C> {
     // The infos with which the node answers a frame of bits.
     fn infos_for(&self, bits: &BitVec, now: Duration) -> Answer<C>
         requires { length bits.now.bits < 2 ^ 32 }
-        ensures seen { let wire = wire_of C.verifies C.FixedBytes C.Signature.FixedBytes in
+        ensures seen { let wire = ⟦<C as Frames>⟧.wire in
             let o = replied wire (infos_in C.cmp self.now.directory bits.now.index bits.now.bits
             (as_nanos now)) in
-            Answers C.cmp (takes_room o.answer) o (received_of wire result) self.now
-            self.now }
+            Answers C.cmp (takes_room o.answer) o (received_of wire result) self.now self.now }
         ensures few { AreFew result }
     {
         match self.server.infos_for(bits, now) {
@@ -185,8 +184,8 @@ impl<C: PublicKey> Node<C> {
     // Verifies the info of a greeting frame that the node received, and applies it.
     fn greet(&mut self, info: Info<C>, now: Duration) -> Received<C>
         ensures unchanged { applies result ≡ false → self.new ≡ self.old }
-        ensures seen { let o = greeted (wire_of C.verifies C.FixedBytes C.Signature.FixedBytes) info
-            (refusal (judge_of C.cmp C.verifies self.old.verifier) (as_nanos now) info) in
+        ensures seen { let o = greeted ⟦<C as Frames>⟧.wire info (refusal (judge_of C.cmp C.verifies
+            self.old.verifier) (as_nanos now) info) in
             Answers C.cmp (takes_room o.answer) o result self.old self.new }
     {
         if let Err(error) = self.verifier.validate_info(now, &info) {
@@ -199,8 +198,8 @@ impl<C: PublicKey> Node<C> {
     // is valid, and applies it.
     fn greet_by(&mut self, info: Info<C>, now: Duration, right: bool) -> Received<C>
         ensures unchanged { applies result ≡ false → self.new ≡ self.old }
-        ensures seen { let o = greeted (wire_of C.verifies C.FixedBytes C.Signature.FixedBytes) info
-            (refusal_if (judge_of C.cmp C.verifies self.old.verifier) right (as_nanos now) info) in
+        ensures seen { let o = greeted ⟦<C as Frames>⟧.wire info (refusal_if (judge_of C.cmp
+            C.verifies self.old.verifier) right (as_nanos now) info) in
             Answers C.cmp (takes_room o.answer) o result self.old self.new }
     {
         if let Err(error) = self.verifier.validate_info_with_verdict(now, &info, right) {
@@ -212,9 +211,8 @@ impl<C: PublicKey> Node<C> {
     // Applies the info of a greeting frame that the node received.
     fn apply_greeting(&mut self, info: Info<C>) -> Received<C>
         ensures unchanged { applies result ≡ false → self.new ≡ self.old }
-        ensures seen { let wire = wire_of C.verifies C.FixedBytes C.Signature.FixedBytes in
-            Answers C.cmp true (greeted wire info None) result
-            self.old self.new }
+        ensures seen { Answers C.cmp true (greeted ⟦<C as Frames>⟧.wire info None) result self.old
+            self.new }
     {
         match Vec::with_capacity(self.server.directory().allocator(), 1) {
             Ok(mut infos) => {
@@ -230,12 +228,12 @@ impl<C: PublicKey> Node<C> {
     // Replies to a frame of bits that the node received with the infos for them.
     fn reply(&self, bits: &BitVec, now: Duration) -> Received<C>
         requires { length bits.now.bits < 2 ^ 32 }
-        ensures seen { let o = replied (wire_of C.verifies C.FixedBytes C.Signature.FixedBytes)
-            (infos_in C.cmp self.now.directory bits.now.index bits.now.bits (as_nanos now)) in
+        ensures seen { let o = replied ⟦<C as Frames>⟧.wire (infos_in C.cmp self.now.directory
+            bits.now.index bits.now.bits (as_nanos now)) in
             Answers C.cmp (takes_room o.answer) o result self.now self.now }
-        ensures values { let wire = wire_of C.verifies C.FixedBytes C.Signature.FixedBytes in
-            AreValues C.IsValue C.Signature.IsValue (told_with (replied wire (infos_in C.cmp
-            self.now.directory bits.now.index bits.now.bits (as_nanos now))) result) }
+        ensures values { AreValues C.IsValue C.Signature.IsValue (told_with (replied
+            ⟦<C as Frames>⟧.wire (infos_in C.cmp self.now.directory bits.now.index bits.now.bits
+            (as_nanos now))) result) }
     {
         match self.reply_frame(bits, now) {
             Ok(Some(frame)) => Received::Reply(frame),
@@ -276,10 +274,8 @@ impl<C: PublicKey> Node<C> {
     // Verifies the infos of a frame that the node received, all of them, and applies them.
     fn take(&mut self, infos: Infos<C>, now: Duration) -> Received<C>
         ensures unchanged { applies result ≡ false → self.new ≡ self.old }
-        ensures seen { let wire = wire_of C.verifies C.FixedBytes C.Signature.FixedBytes in
-            Answers C.cmp false (taken wire infos (list_refusal
-            (judge_of C.cmp C.verifies self.old.verifier) (as_nanos now) infos)) result
-            self.old self.new }
+        ensures seen { Answers C.cmp false (taken ⟦<C as Frames>⟧.wire infos (list_refusal (judge_of
+            C.cmp C.verifies self.old.verifier) (as_nanos now) infos)) result self.old self.new }
     {
         if let Err(error) = self.verifier.validate(now, infos.as_slice()) {
             return Received::Invalid(error);
@@ -291,8 +287,7 @@ impl<C: PublicKey> Node<C> {
     // signatures are valid, and applies them.
     fn take_by(&mut self, infos: Infos<C>, now: Duration, verdicts: &[bool]) -> Received<C>
         ensures unchanged { applies result ≡ false → self.new ≡ self.old }
-        ensures seen { let wire = wire_of C.verifies C.FixedBytes C.Signature.FixedBytes in
-            Answers C.cmp false (taken wire infos (list_refusal_by
+        ensures seen { Answers C.cmp false (taken ⟦<C as Frames>⟧.wire infos (list_refusal_by
             (judge_of C.cmp C.verifies self.old.verifier) verdicts.now (as_nanos now) infos)) result
             self.old self.new }
     {
@@ -308,9 +303,8 @@ impl<C: PublicKey> Node<C> {
     // Applies the infos of a frame that the node received.
     fn apply(&mut self, infos: Infos<C>) -> Received<C>
         ensures unchanged { applies result ≡ false → self.new ≡ self.old }
-        ensures seen { let wire = wire_of C.verifies C.FixedBytes C.Signature.FixedBytes in
-            Answers C.cmp false (taken wire infos None) result
-            self.old self.new }
+        ensures seen { Answers C.cmp false (taken ⟦<C as Frames>⟧.wire infos None) result self.old
+            self.new }
     {
         let infos = infos.into_vec();
         let count = infos.len();

@@ -2,10 +2,10 @@
 
 ghost use Rattle.std.specs.Prelude.{◌≡◌, None};
 ghost use Rattle.std.specs.Duration.{as_nanos};
-ghost use Rattle.p2p_directory.specs.Received.{wire_of};
 ghost use Rattle.p2p_directory.specs.Exchange.{Exchanges, IsExchanged, Carries, infos_applied};
 
 use crate::node::Node;
+use crate::node::wire::Frames;
 use p2p_discovery::codec::{CodecError, PublicKey};
 use p2p_discovery::discovery::{Error, Info};
 use std::fmt;
@@ -81,13 +81,13 @@ pub fn exchange<C: PublicKey>(
     asker_now: Duration,
     replier_now: Duration,
 ) -> Exchanged<C>
-    ensures seen { Exchanges C.cmp (wire_of C.verifies C.FixedBytes C.Signature.FixedBytes) place
-        (as_nanos asker_now) (as_nanos replier_now) result asker.old replier.now asker.new }
+    ensures seen { Exchanges C.cmp ⟦<C as Frames>⟧.wire place (as_nanos asker_now)
+        (as_nanos replier_now) result asker.old replier.now asker.new }
     ensures unchanged { infos_applied result ≡ None → asker.new ≡ asker.old }
-    ensures exchanged { IsExchanged C.cmp (wire_of C.verifies C.FixedBytes C.Signature.FixedBytes)
-        place (as_nanos asker_now) (as_nanos replier_now) result asker.old replier.now asker.new }
-    ensures carried { Carries C.cmp (wire_of C.verifies C.FixedBytes C.Signature.FixedBytes) place
-        (as_nanos asker_now) (as_nanos replier_now) result asker.old replier.now asker.new }
+    ensures exchanged { IsExchanged C.cmp ⟦<C as Frames>⟧.wire place (as_nanos asker_now)
+        (as_nanos replier_now) result asker.old replier.now asker.new }
+    ensures carried { Carries C.cmp ⟦<C as Frames>⟧.wire place (as_nanos asker_now)
+        (as_nanos replier_now) result asker.old replier.now asker.new }
 {
     asker.exchange_with(replier, place, asker_now, replier_now)
 }

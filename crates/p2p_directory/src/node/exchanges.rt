@@ -9,7 +9,6 @@ ghost use Rattle.p2p_discovery.specs.declared.discovery.Payload.TheVariants as s
 ghost use Rattle.p2p_discovery.specs.Judgement.{judge_of, list_refusal};
 ghost use Rattle.p2p_discovery.specs.Payload.{IsAdmitted, payload_spelling};
 ghost use Rattle.p2p_tracker.specs.Directory.{infos_in};
-ghost use Rattle.p2p_directory.specs.Received.{wire_of};
 ghost use Rattle.p2p_directory.specs.Nodes.{standing_of, IsLeft};
 ghost use Rattle.p2p_directory.specs.Exchange.{asked_at, replied_at, judged_at, IsExchangeAnswer};
 ghost use Rattle.p2p_directory.specs.Exchange.{infos_applied, Exchanges, HasSpelling, HaveSpelling};
@@ -20,6 +19,7 @@ ghost use Rattle.p2p_directory.specs.Private.Frames.{SpellsBits, SpellsInfos, Is
 
 use crate::node::Node;
 use crate::node::exchanged::Exchanged;
+use crate::node::wire::Frames;
 use bytes::Bytes;
 use p2p_discovery::codec::{CodecError, PublicKey, Read};
 use p2p_discovery::discovery::{BitVec, Info, Infos, Payload};
@@ -36,14 +36,13 @@ impl<C: PublicKey> Node<C> {
         asker_now: Duration,
         replier_now: Duration,
     ) -> Exchanged<C>
-        ensures seen { Exchanges C.cmp (wire_of C.verifies C.FixedBytes C.Signature.FixedBytes)
-            place (as_nanos asker_now) (as_nanos replier_now) result
-            self.old replier.now self.new }
+        ensures seen { Exchanges C.cmp ⟦<C as Frames>⟧.wire place (as_nanos asker_now)
+            (as_nanos replier_now) result self.old replier.now self.new }
         ensures unchanged { infos_applied result ≡ None → self.new ≡ self.old }
-        ensures spelled { let wire = wire_of C.verifies C.FixedBytes C.Signature.FixedBytes in
+        ensures spelled { let wire = ⟦<C as Frames>⟧.wire in
             UnlessRefused (CanBeSpelled C.IsValue C.Signature.IsValue
-            (standing_of C.cmp wire self.old)
-            (standing_of C.cmp wire replier.now) place (as_nanos replier_now)) result }
+            (standing_of C.cmp wire self.old) (standing_of C.cmp wire replier.now) place
+            (as_nanos replier_now)) result }
     {
         match self.ask_frame(place) {
             Ok(Some(frame)) => self.hand_to(replier, frame, asker_now, replier_now),
@@ -62,19 +61,18 @@ impl<C: PublicKey> Node<C> {
         replier_now: Duration,
     ) -> Exchanged<C>
         requires { SpellsBits (payload_spelling C.spelled C.Signature.spelled) frame }
-        ensures answer { (v : BitVec) → HasSpelling v →
-            frame ≡ payload_spelling C.spelled C.Signature.spelled (said.BitVec v) →
-            let wire = wire_of C.verifies C.FixedBytes C.Signature.FixedBytes in
+        ensures answer { (v : BitVec) → HasSpelling v → frame ≡ payload_spelling C.spelled
+            C.Signature.spelled (said.BitVec v) → let wire = ⟦<C as Frames>⟧.wire in
             IsExchangeAnswer true (asked_at (standing_of C.cmp wire self.old)
-            (standing_of C.cmp wire replier.now)
-            (as_nanos asker_now) (as_nanos replier_now) (Some v)) result }
+            (standing_of C.cmp wire replier.now) (as_nanos asker_now) (as_nanos replier_now)
+            (Some v)) result }
         ensures left { IsLeft C.cmp
             self.old (infos_applied result) self.new }
         ensures unchanged { infos_applied result ≡ None → self.new ≡ self.old }
-        ensures spelled { let wire = wire_of C.verifies C.FixedBytes C.Signature.FixedBytes in
-            (v : BitVec) → HasSpelling v → frame ≡ payload_spelling C.spelled C.Signature.spelled
-            (said.BitVec v) → UnlessRefused (CanBeReplied C.IsValue C.Signature.IsValue
-            (standing_of C.cmp wire replier.now) (as_nanos replier_now) v) result }
+        ensures spelled { (v : BitVec) → HasSpelling v → frame ≡ payload_spelling C.spelled
+            C.Signature.spelled (said.BitVec v) → UnlessRefused (CanBeReplied C.IsValue
+            C.Signature.IsValue (standing_of C.cmp ⟦<C as Frames>⟧.wire replier.now)
+            (as_nanos replier_now) v) result }
     {
         match replier.reply_to(frame, replier_now) {
             Ok(reply) => self.take_reply(reply, asker_now),
@@ -85,15 +83,15 @@ impl<C: PublicKey> Node<C> {
     // The replier's part of an exchange of two nodes: reads a frame of bits, and replies.
     fn reply_to(&self, frame: Bytes, now: Duration) -> Result<Bytes, Exchanged<C>>
         requires { SpellsBits (payload_spelling C.spelled C.Signature.spelled) frame }
-        ensures replies { let wire = wire_of C.verifies C.FixedBytes C.Signature.FixedBytes in
-            (v : BitVec) → HasSpelling v → frame ≡ payload_spelling C.spelled C.Signature.spelled
-            (said.BitVec v) → RepliesToBits C.IsValue C.Signature.IsValue
+        ensures replies { (v : BitVec) → HasSpelling v → frame ≡ payload_spelling C.spelled
+            C.Signature.spelled (said.BitVec v) → RepliesToBits C.IsValue C.Signature.IsValue
             (payload_spelling C.spelled C.Signature.spelled) (λ asker asker_now. asked_at asker
-            (standing_of C.cmp wire self.now) asker_now (as_nanos now) (Some v)) result }
-        ensures spelled { let wire = wire_of C.verifies C.FixedBytes C.Signature.FixedBytes in
-            (v : BitVec) → HasSpelling v → frame ≡ payload_spelling C.spelled C.Signature.spelled
-            (said.BitVec v) → UnlessReplyRefused (CanBeReplied C.IsValue C.Signature.IsValue
-            (standing_of C.cmp wire self.now) (as_nanos now) v) result }
+            (standing_of C.cmp ⟦<C as Frames>⟧.wire self.now) asker_now (as_nanos now) (Some v))
+            result }
+        ensures spelled { (v : BitVec) → HasSpelling v → frame ≡ payload_spelling C.spelled
+            C.Signature.spelled (said.BitVec v) → UnlessReplyRefused (CanBeReplied C.IsValue
+            C.Signature.IsValue (standing_of C.cmp ⟦<C as Frames>⟧.wire self.now) (as_nanos now) v)
+            result }
     {
         match self.read(frame) {
             Ok(Payload::BitVec(bits)) => self.reply_with(&bits, now),
@@ -125,11 +123,10 @@ impl<C: PublicKey> Node<C> {
     fn take_reply(&mut self, reply: Bytes, now: Duration) -> Exchanged<C>
         requires { SpellsInfos C.IsValue C.Signature.IsValue
             (payload_spelling C.spelled C.Signature.spelled) reply }
-        ensures answer { let wire = wire_of C.verifies C.FixedBytes C.Signature.FixedBytes in
-            (infos : List (Info C C.Signature)) → HaveSpelling C.IsValue C.Signature.IsValue infos →
-            reply ≡ payload_spelling C.spelled C.Signature.spelled (said.Peers infos) →
-            IsExchangeAnswer true (replied_at (standing_of C.cmp wire self.old)
-            (as_nanos now) (Some infos)) result }
+        ensures answer { (infos : List (Info C C.Signature)) → HaveSpelling C.IsValue
+            C.Signature.IsValue infos → reply ≡ payload_spelling C.spelled C.Signature.spelled
+            (said.Peers infos) → IsExchangeAnswer true (replied_at (standing_of C.cmp
+            ⟦<C as Frames>⟧.wire self.old) (as_nanos now) (Some infos)) result }
         ensures left { IsLeft C.cmp
             self.old (infos_applied result) self.new }
         ensures unchanged { infos_applied result ≡ None → self.new ≡ self.old }

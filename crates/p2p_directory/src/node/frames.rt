@@ -2,7 +2,7 @@
 
 ghost use Rattle.std.specs.Prelude.{◌≡◌, [], true, false, IfOk, OnErr};
 ghost use Rattle.std.specs.Duration.{as_nanos};
-ghost use Rattle.p2p_directory.specs.Received.{wire_of, applies, received_of, AreFew};
+ghost use Rattle.p2p_directory.specs.Received.{applies, received_of, AreFew};
 ghost use Rattle.p2p_directory.specs.Received.{are_miscounted, verdicts_of, IsWantOfMemory};
 ghost use Rattle.p2p_directory.specs.Nodes.{IsAsked, IsReceived, given_verdicts, standing_of};
 ghost use Rattle.p2p_directory.specs.Nodes.{AnswersFrame, AsksWith, TellsValues};
@@ -14,6 +14,7 @@ ghost use Rattle.p2p_directory.specs.Laws.LateFrames.{TakesLateAt};
 use crate::node::Node;
 use crate::node::decoded::Decoded;
 use crate::node::received::{Answer, Miscounted, Received};
+use crate::node::wire::Frames;
 use bytes::Bytes;
 use p2p_discovery::codec::{CodecError, PublicKey};
 use std::alloc::AllocError;
@@ -32,10 +33,8 @@ impl<C: PublicKey> Node<C> {
     ///
     /// Proportional to the bytes of the frame.
     pub fn ask(&self, place: usize) -> Result<Option<Bytes>, AllocError>
-        ensures seen { AsksWith C.cmp (wire_of C.verifies C.FixedBytes C.Signature.FixedBytes)
-            place result self.now }
-        ensures asked { IsAsked C.cmp (wire_of C.verifies C.FixedBytes C.Signature.FixedBytes)
-            place result self.now }
+        ensures seen { AsksWith C.cmp ⟦<C as Frames>⟧.wire place result self.now }
+        ensures asked { IsAsked C.cmp ⟦<C as Frames>⟧.wire place result self.now }
     {
         self.ask_frame(place)
     }
@@ -68,16 +67,15 @@ impl<C: PublicKey> Node<C> {
     ///
     /// One pass over the frame, one signature verified for each info, and the cost of the call.
     pub fn receive(&mut self, frame: Bytes, now: Duration) -> Received<C>
-        ensures seen { AnswersFrame C.cmp (wire_of C.verifies C.FixedBytes C.Signature.FixedBytes)
-            verdicts_of frame (as_nanos now) result self.old self.new }
+        ensures seen { AnswersFrame C.cmp ⟦<C as Frames>⟧.wire verdicts_of frame (as_nanos now)
+            result self.old self.new }
         ensures unchanged { applies result ≡ false → self.new ≡ self.old }
-        ensures values { TellsValues C.cmp (wire_of C.verifies C.FixedBytes C.Signature.FixedBytes)
-            C.IsValue C.Signature.IsValue frame (as_nanos now) result self.old }
-        ensures received { IsReceived C.cmp (wire_of C.verifies C.FixedBytes C.Signature.FixedBytes)
-            verdicts_of frame (as_nanos now) result self.old self.new }
-        ensures late { AtEach C.cmp self.old (λ m calls. TakesLateAt
-            (wire_of C.verifies C.FixedBytes C.Signature.FixedBytes)
-            C.IsValue C.Signature.IsValue m calls frame (as_nanos now) result) }
+        ensures values { TellsValues C.cmp ⟦<C as Frames>⟧.wire C.IsValue C.Signature.IsValue frame
+            (as_nanos now) result self.old }
+        ensures received { IsReceived C.cmp ⟦<C as Frames>⟧.wire verdicts_of frame (as_nanos now)
+            result self.old self.new }
+        ensures late { AtEach C.cmp self.old (λ m calls. TakesLateAt ⟦<C as Frames>⟧.wire C.IsValue
+            C.Signature.IsValue m calls frame (as_nanos now) result) }
     {
         self.answer(frame, now)
     }
@@ -102,20 +100,20 @@ impl<C: PublicKey> Node<C> {
         now: Duration,
         verdicts: &[bool],
     ) -> Result<Answer<C>, Miscounted>
-        ensures seen { let wire = wire_of C.verifies C.FixedBytes C.Signature.FixedBytes in
+        ensures seen { let wire = ⟦<C as Frames>⟧.wire in
             IfOk result (λ a. AnswersFrame C.cmp wire (given_verdicts verdicts.now) frame
             (as_nanos now) (received_of wire a) self.old self.new) }
-        ensures received { let wire = wire_of C.verifies C.FixedBytes C.Signature.FixedBytes in
+        ensures received { let wire = ⟦<C as Frames>⟧.wire in
             IfOk result (λ a. IsReceived C.cmp wire (given_verdicts verdicts.now) frame
             (as_nanos now) (received_of wire a) self.old self.new) }
-        ensures unchanged { let wire = wire_of C.verifies C.FixedBytes C.Signature.FixedBytes in
-            IfOk result (λ a. applies (received_of wire a) ≡ false → self.new ≡ self.old) }
-        ensures counted { let wire = wire_of C.verifies C.FixedBytes C.Signature.FixedBytes in
+        ensures unchanged { IfOk result (λ a. applies (received_of ⟦<C as Frames>⟧.wire a) ≡ false →
+            self.new ≡ self.old) }
+        ensures counted { let wire = ⟦<C as Frames>⟧.wire in
             let node = standing_of C.cmp wire self.old in
-            IfOk result (λ a. are_miscounted wire node frame verdicts.now ≡ true →
-            IsWantOfMemory (received_of wire a)) }
+            IfOk result (λ a. are_miscounted wire node frame verdicts.now ≡ true → IsWantOfMemory
+            (received_of wire a)) }
         ensures few { IfOk result AreFew }
-        ensures err { let wire = wire_of C.verifies C.FixedBytes C.Signature.FixedBytes in
+        ensures err { let wire = ⟦<C as Frames>⟧.wire in
             let node = standing_of C.cmp wire self.old in
             OnErr result (are_miscounted wire node frame verdicts.now ≡ true) }
         ensures err_same { OnErr result (self.new ≡ self.old) }
@@ -159,20 +157,20 @@ impl<C: PublicKey> Node<C> {
         now: Duration,
         verdicts: &[bool],
     ) -> Result<Answer<C>, Miscounted>
-        ensures seen { let wire = wire_of C.verifies C.FixedBytes C.Signature.FixedBytes in
+        ensures seen { let wire = ⟦<C as Frames>⟧.wire in
             IfOk result (λ a. AnswersFrame C.cmp wire (given_verdicts verdicts.now) decoded.frame
             (as_nanos now) (received_of wire a) self.old self.new) }
-        ensures received { let wire = wire_of C.verifies C.FixedBytes C.Signature.FixedBytes in
+        ensures received { let wire = ⟦<C as Frames>⟧.wire in
             IfOk result (λ a. IsReceived C.cmp wire (given_verdicts verdicts.now) decoded.frame
             (as_nanos now) (received_of wire a) self.old self.new) }
-        ensures unchanged { let wire = wire_of C.verifies C.FixedBytes C.Signature.FixedBytes in
-            IfOk result (λ a. applies (received_of wire a) ≡ false → self.new ≡ self.old) }
-        ensures counted { let wire = wire_of C.verifies C.FixedBytes C.Signature.FixedBytes in
+        ensures unchanged { IfOk result (λ a. applies (received_of ⟦<C as Frames>⟧.wire a) ≡ false →
+            self.new ≡ self.old) }
+        ensures counted { let wire = ⟦<C as Frames>⟧.wire in
             let node = standing_of C.cmp wire self.old in
             IfOk result (λ a. are_miscounted wire node decoded.frame verdicts.now ≡ true →
             IsWantOfMemory (received_of wire a)) }
         ensures few { IfOk result AreFew }
-        ensures err { let wire = wire_of C.verifies C.FixedBytes C.Signature.FixedBytes in
+        ensures err { let wire = ⟦<C as Frames>⟧.wire in
             let node = standing_of C.cmp wire self.old in
             OnErr result (are_miscounted wire node decoded.frame verdicts.now ≡ true) }
         ensures err_same { OnErr result (self.new ≡ self.old) }

@@ -5,7 +5,6 @@ ghost use Rattle.std.specs.Prelude.{MatchOption, ◌∷◌, IfSome, OnOk, OnErr,
 ghost use Rattle.std.specs.Int.NonZero.{non_zero_usize_get};
 ghost use Rattle.std.specs.List.{All};
 ghost use Rattle.p2p_discovery.specs.Info.{IsInfo, IsKeyed};
-ghost use Rattle.p2p_directory.specs.Received.{wire_of};
 ghost use Rattle.p2p_directory.specs.Nodes.{NodeView, NodeStandsAt, made_of};
 ghost use Rattle.p2p_directory.specs.Network.{OfNetwork, StandAfter, AreNetworkAnswers, done_after};
 ghost use Rattle.p2p_directory.specs.Network.{IsNetworkServed, IsServedAmong, AreReleased};
@@ -17,6 +16,7 @@ use crate::node::exchanged::Exchanged;
 pub use crate::node::network::commands::{NetworkCommand, NetworkReply};
 use crate::node::network::nodes::{ask, exchange, make_room, receive, serve, step, swap_at};
 use crate::node::setup::Setup;
+use crate::node::wire::Frames;
 use crate::run::Command;
 use bytes::Bytes;
 use p2p_discovery::codec::PublicKey;
@@ -67,7 +67,7 @@ impl<C: PublicKey> Network<C> {
         requires sets { All (λ s. non_zero_usize_get s.cfg.max_sets < 2 ^ 64 - 1) setups.items }
         requires bits { All (λ s. s.payload.max_bit_vec < 2 ^ 32) setups.items }
         ensures stand { IfOk result (λ nodes. OfNetwork C.cmp setups.items (λ size node. StandAfter
-            (wire_of C.verifies C.FixedBytes C.Signature.FixedBytes) size node [] nodes)) }
+            ⟦<C as Frames>⟧.wire size node [] nodes)) }
         ensures own { IfOk result (λ _. All (λ s.
             IsInfo s.myself × IsKeyed C.IsValue C.Signature.IsValue s.myself) setups.items) }
     {
@@ -173,10 +173,9 @@ impl<C: PublicKey> Network<C> {
     ///
     /// That of the same call of one node, or of two.
     pub fn serve(&mut self, command: NetworkCommand<C>) -> NetworkReply<C>
-        ensures served { let wire = wire_of C.verifies C.FixedBytes C.Signature.FixedBytes in
-            IsNetworkServed C.cmp wire command result self.old self.new }
-        ensures seen { IsServedAmong C.cmp (wire_of C.verifies C.FixedBytes C.Signature.FixedBytes)
-            command result self.old self.new }
+        ensures served { IsNetworkServed C.cmp ⟦<C as Frames>⟧.wire command result self.old
+            self.new }
+        ensures seen { IsServedAmong C.cmp ⟦<C as Frames>⟧.wire command result self.old self.new }
         ensures unchanged { may_change result ≡ false → AreSame self.old self.new }
         ensures room { KeepRoom C.cmp command self.old self.new }
         ensures count { length self.new ≡ length self.old }
@@ -297,9 +296,10 @@ impl<C: PublicKey> NetworkRun<C> {
 /// an `Ask` only if there is a set at the position. A `Frame` and an `Exchange` get `Memory` only
 /// if [`Node::receive`] and [`exchange`](crate::node::exchange) may return it.
 ///
-/// At each point of the run hold the laws of provenance, newer, reach, acquaintance, isolation and
-/// order, and of each reply those of exchanges, frames, greetings, late frames and other nodes.
-/// docs/PROOFS.md has them, with their premises, below "Nodes and gossip".
+/// At each point of the run hold the laws of provenance, given infos, reach and acquaintance, and
+/// of each reply those of exchanges, frames, greetings and late frames. docs/PROOFS.md has them,
+/// with their premises, below "Nodes and gossip". Laws that hold whatever the replies are those of
+/// [`gossip_of_a_network`](crate::laws::gossip_of_a_network) alone.
 ///
 /// It isn't claimed that any node answers, that peer sets are the same everywhere, or that infos
 /// spread by themselves: the caller's commands decide which node asks which.
@@ -326,20 +326,19 @@ pub fn run_network<C: PublicKey>(
     requires sets { All (λ s. non_zero_usize_get s.cfg.max_sets < 2 ^ 64 - 1) setups.items }
     requires bits { All (λ s. s.payload.max_bit_vec < 2 ^ 32) setups.items }
     ensures answers { IfOk result (λ run. OfNetwork C.cmp setups.items (λ size node.
-        AreNetworkAnswers (wire_of C.verifies C.FixedBytes C.Signature.FixedBytes)
-        size node [] commands.items run.replies.items)) }
+        AreNetworkAnswers ⟦<C as Frames>⟧.wire size node [] commands.items run.replies.items)) }
     ensures stand { IfOk result (λ run. OfNetwork C.cmp setups.items (λ size node.
-        let wire = wire_of C.verifies C.FixedBytes C.Signature.FixedBytes in
-        StandAfter wire size node
-        (done_after wire size node [] commands.items run.replies.items) run.nodes)) }
+        let wire = ⟦<C as Frames>⟧.wire in
+        StandAfter wire size node (done_after wire size node [] commands.items run.replies.items)
+        run.nodes)) }
     ensures at_each_point { IfOk result (λ run. OfNetwork C.cmp setups.items (λ size node.
-        let wire = wire_of C.verifies C.FixedBytes C.Signature.FixedBytes in
-        AtEachPoint wire size node (PointLaws wire size node)
-        [] commands.items run.replies.items)) }
+        let wire = ⟦<C as Frames>⟧.wire in
+        AtEachPoint wire size node (PointLaws wire size node) [] commands.items
+        run.replies.items)) }
     ensures of_each_reply { IfOk result (λ run. OfNetwork C.cmp setups.items (λ size node.
-        let wire = wire_of C.verifies C.FixedBytes C.Signature.FixedBytes in
-        OfEachReply wire size node (ReplyLaws wire size node C.IsValue C.Signature.IsValue)
-        [] commands.items run.replies.items)) }
+        let wire = ⟦<C as Frames>⟧.wire in
+        OfEachReply wire size node (ReplyLaws wire size node C.IsValue C.Signature.IsValue) []
+        commands.items run.replies.items)) }
 {
     let mut replies = Vec::with_capacity(alloc, commands.len())?;
     let Network { mut nodes, room } = Network::new(alloc, setups)?;

@@ -5,7 +5,6 @@ ghost use Rattle.std.specs.Int.NonZero.{non_zero_usize_get};
 ghost use Rattle.std.specs.List.{AllPass};
 ghost use Rattle.std.specs.Vec.{vec_capacity};
 ghost use Rattle.p2p_directory.specs.declared.node.pair.Side.TheVariants as side;
-ghost use Rattle.p2p_directory.specs.Received.{wire_of};
 ghost use Rattle.p2p_directory.specs.Nodes.{NodeStandsAt, made_of};
 ghost use Rattle.p2p_directory.specs.Pairs.{ArePairAnswers, calls_left, commands_in, command_in};
 ghost use Rattle.p2p_directory.specs.Pairs.{replies_in, reply_in};
@@ -18,6 +17,7 @@ use crate::node::exchanged::Exchanged;
 use crate::node::network::{NetworkCommand, NetworkReply, NetworkRun, run_network};
 use crate::node::received::Received;
 use crate::node::setup::Setup;
+use crate::node::wire::Frames;
 use crate::run::{Command, Reply};
 use bytes::Bytes;
 use p2p_discovery::codec::PublicKey;
@@ -131,18 +131,16 @@ pub fn run_pair<C: PublicKey>(
     requires left_bits { left.payload.max_bit_vec < 2 ^ 32 }
     requires right_sets { non_zero_usize_get right.cfg.max_sets < 2 ^ 64 - 1 }
     requires right_bits { right.payload.max_bit_vec < 2 ^ 32 }
-    ensures answers { let wire = wire_of C.verifies C.FixedBytes C.Signature.FixedBytes in
-        IfOk result (λ run. ArePairAnswers wire (made_of C.cmp left) (made_of C.cmp right) []
-        commands.items run.replies.items) }
-    ensures left { let wire = wire_of C.verifies C.FixedBytes C.Signature.FixedBytes in
-        IfOk result (λ run. NodeStandsAt (made_of C.cmp left) (calls_left wire (made_of C.cmp left)
-        (made_of C.cmp right) commands.items run.replies.items side.Left) run.left) }
-    ensures right { let wire = wire_of C.verifies C.FixedBytes C.Signature.FixedBytes in
-        IfOk result (λ run. NodeStandsAt (made_of C.cmp right) (calls_left wire (made_of C.cmp left)
-        (made_of C.cmp right) commands.items run.replies.items side.Right) run.right) }
-    ensures laws { let wire = wire_of C.verifies C.FixedBytes C.Signature.FixedBytes in
-        IfOk result (λ run. LawsOfPair wire C.IsValue C.Signature.IsValue (made_of C.cmp left)
-        (made_of C.cmp right) commands.items run.replies.items) }
+    ensures answers { IfOk result (λ run. ArePairAnswers ⟦<C as Frames>⟧.wire (made_of C.cmp left)
+        (made_of C.cmp right) [] commands.items run.replies.items) }
+    ensures left { IfOk result (λ run. NodeStandsAt (made_of C.cmp left) (calls_left
+        ⟦<C as Frames>⟧.wire (made_of C.cmp left) (made_of C.cmp right) commands.items
+        run.replies.items side.Left) run.left) }
+    ensures right { IfOk result (λ run. NodeStandsAt (made_of C.cmp right) (calls_left
+        ⟦<C as Frames>⟧.wire (made_of C.cmp left) (made_of C.cmp right) commands.items
+        run.replies.items side.Right) run.right) }
+    ensures laws { IfOk result (λ run. LawsOfPair ⟦<C as Frames>⟧.wire C.IsValue C.Signature.IsValue
+        (made_of C.cmp left) (made_of C.cmp right) commands.items run.replies.items) }
 {
     let replies = Vec::with_capacity(alloc, commands.len())?;
     let setups = both(alloc, left, right)?;

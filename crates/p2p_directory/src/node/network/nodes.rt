@@ -3,7 +3,6 @@
 ghost use Rattle.std.specs.Prelude.{◌≡◌, ◌<◌, false, ◌==◌, OnOk, length, slice_index_or, slice_set};
 ghost use Rattle.std.specs.List.{All};
 ghost use Rattle.std.specs.Duration.{as_nanos};
-ghost use Rattle.p2p_directory.specs.Received.{wire_of};
 ghost use Rattle.p2p_directory.specs.Network.{IsNetworkServed, IsServedAmong, may_change};
 ghost use Rattle.p2p_directory.specs.Network.{AreSame, KeepRoom};
 ghost use Rattle.p2p_directory.specs.Private.Networks.{HasRoomFor, GrowSlots, KeepSlots};
@@ -14,6 +13,7 @@ ghost use Rattle.p2p_directory.specs.Private.Networks as networks;
 use crate::node::Node;
 use crate::node::exchanged::Exchanged;
 use crate::node::network::commands::{NetworkCommand, NetworkReply};
+use crate::node::wire::Frames;
 use crate::run::Command;
 use bytes::Bytes;
 use p2p_discovery::codec::PublicKey;
@@ -84,14 +84,11 @@ pub fn swap_at<C: PublicKey>(nodes: &mut [Node<C>], node: usize, new: Node<C>) -
 /// may be granted.
 pub fn serve<C: PublicKey>(nodes: &mut [Node<C>], command: NetworkCommand<C>) -> NetworkReply<C>
     requires room { HasRoomFor C.cmp nodes.old command }
-    ensures answered { let wire = wire_of C.verifies C.FixedBytes C.Signature.FixedBytes in
-        IsNetworkAnswered C.cmp wire command result
-        nodes.old nodes.new }
-    ensures written { let wire = wire_of C.verifies C.FixedBytes C.Signature.FixedBytes in
-        IsNetworkWritten C.cmp wire C.IsValue C.Signature.IsValue command result
-        nodes.old }
-    ensures carried { let wire = wire_of C.verifies C.FixedBytes C.Signature.FixedBytes in
-        IsNetworkCarried C.cmp wire command result nodes.old }
+    ensures answered { IsNetworkAnswered C.cmp ⟦<C as Frames>⟧.wire command result nodes.old
+        nodes.new }
+    ensures written { IsNetworkWritten C.cmp ⟦<C as Frames>⟧.wire C.IsValue C.Signature.IsValue
+        command result nodes.old }
+    ensures carried { IsNetworkCarried C.cmp ⟦<C as Frames>⟧.wire command result nodes.old }
     ensures slots { KeepSlots C.cmp nodes.old nodes.new }
 {
     match command {
@@ -111,9 +108,8 @@ pub fn serve<C: PublicKey>(nodes: &mut [Node<C>], command: NetworkCommand<C>) ->
 // One of the network's nodes serves a command of a run.
 fn call<C: PublicKey>(nodes: &mut [Node<C>], node: usize, command: Command<C>) -> NetworkReply<C>
     requires room { HasRoomFor C.cmp nodes.old (NetworkCommand.Call node command) }
-    ensures answered { let wire = wire_of C.verifies C.FixedBytes C.Signature.FixedBytes in
-        IsNetworkAnswered C.cmp wire (NetworkCommand.Call node command) result
-        nodes.old nodes.new }
+    ensures answered { IsNetworkAnswered C.cmp ⟦<C as Frames>⟧.wire
+        (NetworkCommand.Call node command) result nodes.old nodes.new }
     ensures slots { KeepSlots C.cmp nodes.old nodes.new }
 {
     if node >= nodes.len() {
@@ -129,12 +125,10 @@ pub fn step<C: PublicKey>(
     node: usize,
     command: Command<C>,
 ) -> NetworkReply<C>
-    ensures served { let wire = wire_of C.verifies C.FixedBytes C.Signature.FixedBytes in
-        IsNetworkServed C.cmp wire (NetworkCommand.Call node command) result
-        nodes.old nodes.new }
-    ensures seen { let wire = wire_of C.verifies C.FixedBytes C.Signature.FixedBytes in
-        IsServedAmong C.cmp wire (NetworkCommand.Call node command) result
-        nodes.old nodes.new }
+    ensures served { IsNetworkServed C.cmp ⟦<C as Frames>⟧.wire (NetworkCommand.Call node command)
+        result nodes.old nodes.new }
+    ensures seen { IsServedAmong C.cmp ⟦<C as Frames>⟧.wire (NetworkCommand.Call node command)
+        result nodes.old nodes.new }
     ensures room { KeepRoom C.cmp (NetworkCommand.Call node command) nodes.old nodes.new }
     ensures unchanged { may_change result ≡ false → AreSame nodes.old nodes.new }
 {
@@ -146,14 +140,12 @@ pub fn step<C: PublicKey>(
 
 /// Asks one of the network's nodes for the frame of the bits at a position.
 pub fn ask<C: PublicKey>(nodes: &[Node<C>], node: usize, place: usize) -> NetworkReply<C>
-    ensures answered { let wire = wire_of C.verifies C.FixedBytes C.Signature.FixedBytes in
-        IsNetworkAnswered C.cmp wire (NetworkCommand.Ask node place) result nodes.now
-        nodes.now }
-    ensures written { let wire = wire_of C.verifies C.FixedBytes C.Signature.FixedBytes in
-        IsNetworkWritten C.cmp wire C.IsValue C.Signature.IsValue (NetworkCommand.Ask node place)
-        result nodes.now }
-    ensures seen { IsServedAmong C.cmp (wire_of C.verifies C.FixedBytes C.Signature.FixedBytes)
-        (NetworkCommand.Ask node place) result nodes.now nodes.now }
+    ensures answered { IsNetworkAnswered C.cmp ⟦<C as Frames>⟧.wire (NetworkCommand.Ask node place)
+        result nodes.now nodes.now }
+    ensures written { IsNetworkWritten C.cmp ⟦<C as Frames>⟧.wire C.IsValue C.Signature.IsValue
+        (NetworkCommand.Ask node place) result nodes.now }
+    ensures seen { IsServedAmong C.cmp ⟦<C as Frames>⟧.wire (NetworkCommand.Ask node place) result
+        nodes.now nodes.now }
 {
     if node >= nodes.len() {
         return NetworkReply::NoNode;
@@ -178,15 +170,12 @@ pub fn receive<C: PublicKey>(
     frame: Bytes,
     now: Duration,
 ) -> NetworkReply<C>
-    ensures answered { let wire = wire_of C.verifies C.FixedBytes C.Signature.FixedBytes in
-        IsNetworkAnswered C.cmp wire (NetworkCommand.Frame node frame now) result
-        nodes.old nodes.new }
-    ensures written { let wire = wire_of C.verifies C.FixedBytes C.Signature.FixedBytes in
-        IsNetworkWritten C.cmp wire C.IsValue C.Signature.IsValue
+    ensures answered { IsNetworkAnswered C.cmp ⟦<C as Frames>⟧.wire (NetworkCommand.Frame node frame
+        now) result nodes.old nodes.new }
+    ensures written { IsNetworkWritten C.cmp ⟦<C as Frames>⟧.wire C.IsValue C.Signature.IsValue
         (NetworkCommand.Frame node frame now) result nodes.old }
-    ensures seen { let wire = wire_of C.verifies C.FixedBytes C.Signature.FixedBytes in
-        IsServedAmong C.cmp wire (NetworkCommand.Frame node frame now) result
-        nodes.old nodes.new }
+    ensures seen { IsServedAmong C.cmp ⟦<C as Frames>⟧.wire (NetworkCommand.Frame node frame now)
+        result nodes.old nodes.new }
     ensures slots { KeepSlots C.cmp nodes.old nodes.new }
     ensures room { KeepRoom C.cmp (NetworkCommand.Frame node frame now) nodes.old nodes.new }
     ensures unchanged { may_change result ≡ false → AreSame nodes.old nodes.new }
@@ -206,17 +195,12 @@ pub fn exchange<C: PublicKey>(
     asker_now: Duration,
     replier_now: Duration,
 ) -> NetworkReply<C>
-    ensures answered { let wire = wire_of C.verifies C.FixedBytes C.Signature.FixedBytes in
-        IsNetworkAnswered C.cmp wire
-        (NetworkCommand.Exchange asker replier place asker_now replier_now) result
-        nodes.old nodes.new }
-    ensures seen { IsServedAmong C.cmp (wire_of C.verifies C.FixedBytes C.Signature.FixedBytes)
-        (NetworkCommand.Exchange asker replier place asker_now replier_now) result
-        nodes.old nodes.new }
-    ensures carried { let wire = wire_of C.verifies C.FixedBytes C.Signature.FixedBytes in
-        IsNetworkCarried C.cmp wire
-        (NetworkCommand.Exchange asker replier place asker_now replier_now) result
-        nodes.old }
+    ensures answered { IsNetworkAnswered C.cmp ⟦<C as Frames>⟧.wire (NetworkCommand.Exchange asker
+        replier place asker_now replier_now) result nodes.old nodes.new }
+    ensures seen { IsServedAmong C.cmp ⟦<C as Frames>⟧.wire (NetworkCommand.Exchange asker replier
+        place asker_now replier_now) result nodes.old nodes.new }
+    ensures carried { IsNetworkCarried C.cmp ⟦<C as Frames>⟧.wire (NetworkCommand.Exchange asker
+        replier place asker_now replier_now) result nodes.old }
     ensures slots { KeepSlots C.cmp nodes.old nodes.new }
     ensures room { KeepRoom C.cmp
         (NetworkCommand.Exchange asker replier place asker_now replier_now) nodes.old nodes.new }
@@ -240,9 +224,8 @@ fn exchange_between<C: PublicKey>(
     requires asks { asker < length nodes.old }
     requires replies { replier < length nodes.old }
     requires differ { (asker == replier) ≡ false }
-    ensures { ExchangesAmong C.cmp (wire_of C.verifies C.FixedBytes C.Signature.FixedBytes)
-        asker replier place (as_nanos asker_now) (as_nanos replier_now) result
-        nodes.old nodes.new }
+    ensures { ExchangesAmong C.cmp ⟦<C as Frames>⟧.wire asker replier place (as_nanos asker_now)
+        (as_nanos replier_now) result nodes.old nodes.new }
 {
     if asker < replier {
         let (front, back) = nodes.split_at_mut(replier);
