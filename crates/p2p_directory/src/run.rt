@@ -1,15 +1,14 @@
 //! Commands to a directory, served one after the other, and their replies.
 
-ghost use Rattle.std.specs.Prelude.{ℕ, ◌≡◌, ◌<◌, ◌-◌, ◌^◌, [], None, IfOk, OnOk};
+ghost use Rattle.std.specs.Prelude.{◌≡◌, ◌<◌, ◌-◌, ◌^◌, [], None, IfOk, OnOk};
 ghost use Rattle.std.specs.Int.NonZero.{non_zero_usize_get};
 ghost use Rattle.std.specs.List.{AllPass};
-ghost use Rattle.p2p_tracker.specs.Directory.{bit_vec_at};
 ghost use Rattle.p2p_directory.specs.Held.{held_of};
 ghost use Rattle.p2p_directory.specs.Private.Slots.{held_in, AreSlots};
 ghost use Rattle.p2p_directory.specs.Private.Serving.{has_slot_for};
 ghost use Rattle.p2p_directory.specs.Refinement.{Refines};
 ghost use Rattle.p2p_directory.specs.Run.{settings, calls_of, world_left, AreAnswers};
-ghost use Rattle.p2p_directory.specs.Run.{bit_vec_in, Holds};
+ghost use Rattle.p2p_directory.specs.Run.{Holds};
 ghost use Rattle.p2p_directory.specs.Laws.Run.{LawsOfRun};
 
 pub use crate::run::commands::{Command, Reply};
@@ -74,9 +73,6 @@ pub fn run<C: PublicKey>(
         AreAnswers s [] (calls_of commands.items) run.replies.items) }
     ensures directory { IfOk result (λ run. let s = settings C.cmp bootstrappers.items myself cfg in
         Refines s (world_left s (calls_of commands.items) run.replies.items) run.directory) }
-    ensures bits { IfOk result (λ run. let s = settings C.cmp bootstrappers.items myself cfg in
-        (place : ℕ) → bit_vec_at C.cmp run.directory place
-        ≡ bit_vec_in s (world_left s (calls_of commands.items) run.replies.items) place) }
     ensures held { IfOk result (λ run. let s = settings C.cmp bootstrappers.items myself cfg in
         Holds s (world_left s (calls_of commands.items) run.replies.items)
         (held_of C.cmp run.held)) }

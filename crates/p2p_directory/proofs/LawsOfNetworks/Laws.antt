@@ -17,7 +17,6 @@ use Rattle.p2p_directory.proofs.Nodes.ReadBack.{wire_by}
 use Rattle.p2p_directory.proofs.LawsOfRuns.Isolation
 use Rattle.p2p_directory.proofs.LawsOfRuns.OrderRuns
 use Rattle.p2p_directory.proofs.LawsOfNetworks.Provenance
-use Rattle.p2p_directory.proofs.LawsOfNetworks.Newer
 use Rattle.p2p_directory.proofs.LawsOfNetworks.Exchanges
 use Rattle.p2p_directory.proofs.LawsOfNetworks.Reach
 use Rattle.p2p_directory.proofs.LawsOfNetworks.Frames
@@ -41,12 +40,8 @@ module _ {C S : Type 0} (wire : Wire C S) (size : ℕ) (node : ℕ → Made C S)
     point_laws total done answered = record {
       provenance = Provenance.provenance wire size node done answered;
       given = Provenance.gives_signed wire size node done answered;
-      infos = Provenance.hold_signed wire size node done;
-      newer = Newer.only_get_newer wire size node cmp made done;
       reach = Reach.reach wire size node cmp total exact made done answered;
       acquaintance = Reach.acquaint wire size node cmp total exact made done answered;
-      isolation = isolated done;
-      order = reordered done;
     }
 
     pub at_each_point : IsTotalOrder cmp → (cs : List (NetworkCommand C S))
@@ -88,7 +83,6 @@ module _ {C S : Type 0} {key_size signature_size : ℕ} {key : C → List ℕ} {
             h.0;
         infos_replied = replied.0;
         late = Frames.takes_frame k s verifies size node cmp total exact made done c r h.0;
-        others = Provenance.leaves_others wire size node done c r;
       },
       joined ((c, r) ∷ done) (h.0, answered) cs rs h.1 carried.1 replied.1,
     )

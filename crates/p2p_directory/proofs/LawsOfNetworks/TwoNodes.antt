@@ -11,6 +11,7 @@ use Rattle.p2p_directory.specs.Pairs.{two, commands_in, replies_in}
 use Rattle.p2p_directory.specs.Laws.Network as law
 use Rattle.p2p_directory.specs.Laws.Network.{AtEachPoint, OfEachReply, PointLaws, ReplyLaws}
 use Rattle.p2p_directory.specs.Laws.TwoNodes.{LawsOfPair}
+use Rattle.p2p_directory.proofs.LawsOfNetworks.Provenance
 
 -- a weaker law of what was done
 weaker : {C S : Type 0} (wire : Wire C S) (size : ℕ) (node : ℕ → Made C S)
@@ -29,13 +30,10 @@ pub laws_of_pair : {C S : Type 0} (wire : Wire C S) (IsKey : C → Type 0) (IsSi
     (commands_in cs) (replies_in rs) →
     LawsOfPair wire IsKey IsSignature left right cs rs
 laws_of_pair {C} {S} wire IsKey IsSignature left right cs rs points replies = record {
-  given = at_each (law.GivesSigned wire 2 (two left right)) (λ done laws. laws.given);
-  infos = at_each (law.HoldSigned wire 2 (two left right)) (λ done laws. laws.infos);
+  given = weaker wire 2 (two left right) (PointLaws wire 2 (two left right))
+      (law.GivesSigned wire 2 (two left right)) (λ done laws. laws.given) [] (commands_in cs)
+      (replies_in rs) points;
+  infos = Provenance.at_any_point wire 2 (two left right) (law.HoldSigned wire 2 (two left right))
+      (Provenance.hold_signed wire 2 (two left right)) [] (commands_in cs) (replies_in rs);
   of_each_reply = replies;
 }
-  where
-    at_each : (P : Done C S → Type 0) →
-        ((done : Done C S) → PointLaws wire 2 (two left right) done → P done) →
-        AtEachPoint wire 2 (two left right) P [] (commands_in cs) (replies_in rs)
-    at_each P gives = weaker wire 2 (two left right) (PointLaws wire 2 (two left right)) P gives []
-        (commands_in cs) (replies_in rs) points

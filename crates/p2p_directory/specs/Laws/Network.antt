@@ -372,18 +372,10 @@ module _ {C S : Type 0} (wire : Wire C S) (size : ℕ) (node : ℕ → Made C S)
     pub provenance : Provenance done
     -- all that is given is signed where all that comes from outside is
     pub given : GivesSigned done
-    -- .. and so is all that is held
-    pub infos : HoldSigned done
-    -- infos of a present peer only get newer
-    pub newer : OnlyGetNewer done
     -- what an exchange brought is held as long as the peer stays present
     pub reach : Reach done
     -- .. and some info of each other peer that was shared, wanted or not
     pub acquaintance : Acquaint done
-    -- what is done with other single peers may be left out
-    pub isolation : Isolate done
-    -- infos that are given together may be given in any order
-    pub order : Reorder done
 
   -- of one reply, by these keys and signatures
   pub record ReplyLaws (IsKey : C → Type 0) (IsSignature : S → Type 0) (done : Done C S)
@@ -398,8 +390,6 @@ module _ {C S : Type 0} (wire : Wire C S) (size : ℕ) (node : ℕ → Made C S)
     pub infos_replied : RepliesInfos IsKey IsSignature done c r
     -- such infos are taken, however late
     pub late : TakesFrame IsKey IsSignature done c r
-    -- other nodes are left as they were
-    pub others : LeavesOtherNodes done c r
 
   -- P holds of all commands and replies
   abbrev pub OfAll : (Done C S → List (NetworkCommand C S) → List (NetworkReply C S) → Type 0) →

@@ -2,14 +2,11 @@ use Rattle.std.proofs.Common.{◌≡◌, ◌<◌, ◌^◌, [], true, length, sym
 use Rattle.std.specs.Prelude.{is_some}
 use Rattle.std.proofs.lemmas.List.{length_push}
 use Rattle.p2p_directory.specs.Refinement.{Refines}
-use Rattle.p2p_tracker.specs.Directory.{bit_vec_at}
-use Rattle.p2p_directory.specs.Run.{settings, calls_of, world_after, accepted, AreAnswers, bit_vec_in, Holds}
+use Rattle.p2p_directory.specs.Run.{settings, calls_of, world_after, accepted, AreAnswers, Holds}
 use Rattle.p2p_directory.specs.Private.Serving.{has_slot_for}
 use Rattle.p2p_directory.specs.Private.Slots.{held_in}
 use Rattle.p2p_directory.proofs.Definitions.Keys.{exact_from}
-use Rattle.p2p_directory.proofs.LawsOfRuns.Forgotten
 use Rattle.p2p_directory.proofs.LawsOfRuns.Laws.{laws_of_run}
-use Rattle.p2p_directory.proofs.Refinement.KnowledgeRefines.{tie_bits}
 use Rattle.p2p_directory.proofs.Reservations.Served.{are_held, stands_at_start}
 use Rattle.p2p_tracker.proofs.SetsAndRecords.Moved.{item_left, item_moved, item_has, all_moved}
 use Rattle.p2p_directory.proofs.Reservations.Replies.{one_more, room_stays}
@@ -100,16 +97,6 @@ returns-clause-directory g c =
     let kept = c.loop-command.invariant in
     rw (c.into_run.ensures.replies, c.into_run.ensures.directory)
     (subst (λ xs. Refines s (world_after s (accepted s [] (calls_of xs) c.loop-command.replies.items)) c.loop-command.server.directory) (all_taken g c) kept.left.refines)
-
-pub returns-clause-bits : goal.returns-clause-bits
-returns-clause-bits g c = λ place.
-    let s = settings g.C.Ord.cmp c.args.bootstrappers.items c.args.myself c.args.cfg in
-    let kept = c.loop-command.invariant in
-    let at = accepted s [] (calls_of c.loop-command.yielded) c.loop-command.replies.items in
-    let same = tie_bits s kept.left.limit_fits (world_after s at) c.loop-command.server.directory place (Forgotten.absent s at) kept.left.refines in
-    rw (c.into_run.ensures.replies, c.into_run.ensures.directory)
-    (subst (λ xs. bit_vec_at s.cmp c.loop-command.server.directory place
-    ≡ bit_vec_in s (world_after s (accepted s [] (calls_of xs) c.loop-command.replies.items)) place) (all_taken g c) same)
 
 pub returns-clause-held : goal.returns-clause-held
 returns-clause-held g c =
