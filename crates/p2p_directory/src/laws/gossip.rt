@@ -1,6 +1,6 @@
 //! Laws of the frames and the exchanges of nodes.
 
-ghost use Rattle.std.specs.Prelude.{◌≡◌, ◌<◌, ◌^◌, ℕ, true, List};
+ghost use Rattle.std.specs.Prelude.{◌≡◌, ◌<◌, ◌^◌, ℕ, Bool, true, List};
 ghost use Rattle.p2p_tracker.specs.Calls.{Call};
 ghost use Rattle.p2p_discovery.specs.Info.{IsInfo, IsKeyed};
 ghost use Rattle.p2p_directory.specs.Received.{Wire, Standing, verdicts_of, wire_of};
@@ -20,24 +20,29 @@ ghost use Rattle.p2p_directory.specs.Laws.Network.{TakesFrame, AreWritten, Repli
 use p2p_discovery::codec::PublicKey;
 
 /// By a law of gossip, infos may come late: a frame of them is applied by a node, whatever was done
-/// to it before. The premises are in docs/PROOFS.md, below "Late and repeated frames".
+/// to it before, and whatever predicate says which signatures are valid. The premises are in
+/// docs/PROOFS.md, below "Late and repeated frames".
 pub fn infos_may_come_late<C: PublicKey>()
-    ensures { (m : Made C C.Signature) → IsMade C.cmp m →
+    ensures { (verifies : C → List ℕ → List ℕ → C.Signature → Bool) →
+        (m : Made C C.Signature) → IsMade C.cmp m →
         (calls : List (Call C C.Signature)) (frame : List ℕ) (now : ℕ) (r : Received C C.Signature)
         (v : NodeView C C.Signature) →
-        let wire = wire_of C.verifies C.FixedBytes C.Signature.FixedBytes in
+        let wire = wire_of verifies C.FixedBytes C.Signature.FixedBytes in
         IsReceivedAt m wire calls verdicts_of frame now r v →
         TakesLateAt wire C.IsValue C.Signature.IsValue m calls frame now r }
 {}
 
 /// By a law of gossip, an exchange is carried as bytes: it comes to what its three frames come to,
-/// and they to nothing else. docs/PROOFS.md has this below "Exchanges".
+/// and they to nothing else, whatever predicate says which signatures are valid. docs/PROOFS.md has
+/// this below "Exchanges".
 pub fn exchanges_are_carried<C: PublicKey>()
-    ensures carried { let wire = wire_of C.verifies C.FixedBytes C.Signature.FixedBytes in
+    ensures carried { (verifies : C → List ℕ → List ℕ → C.Signature → Bool) →
+        let wire = wire_of verifies C.FixedBytes C.Signature.FixedBytes in
         (asker replier : Standing C C.Signature) (place s t : ℕ) →
         CanBeSpelled C.IsValue C.Signature.IsValue asker replier place t →
         IsCarried wire asker replier place s t (exchanged_at asker replier place s t) }
-    ensures only { let wire = wire_of C.verifies C.FixedBytes C.Signature.FixedBytes in
+    ensures only { (verifies : C → List ℕ → List ℕ → C.Signature → Bool) →
+        let wire = wire_of verifies C.FixedBytes C.Signature.FixedBytes in
         (asker replier : Standing C C.Signature) (place s t : ℕ) →
         CanBeSpelled C.IsValue C.Signature.IsValue asker replier place t →
         (o : ExchangeOutcome C C.Signature) → IsCarried wire asker replier place s t o →
@@ -45,9 +50,10 @@ pub fn exchanges_are_carried<C: PublicKey>()
 {}
 
 /// The laws of gossip of any number of nodes, by the replies to what is done to them from their
-/// start: what [`run_network`](crate::node::run_network) promises, in words in docs/PROOFS.md. Laws
-/// that have fewer premises than all at a point are said by themselves, too. Infos, newer,
-/// isolation, order and others are laws of the definitions: they hold whatever the replies.
+/// start: what [`run_network`](crate::node::run_network) promises, in words in docs/PROOFS.md. Any
+/// predicate may say which signatures are valid, not only [`PublicKey::verify`]. Laws that have
+/// fewer premises than all at a point are said by themselves, too. Infos, newer, isolation, order
+/// and others are laws of the definitions: they hold whatever the replies.
 pub fn gossip_of_a_network<C: PublicKey>()
     ensures at_each_point { (wire : Wire C C.Signature) (size : ℕ) (node : ℕ → Made C C.Signature) →
         AreMade wire size node C.cmp → OfAnswers wire size node
@@ -72,19 +78,22 @@ pub fn gossip_of_a_network<C: PublicKey>()
         (OfEachReply wire size node (BringsWanted wire size node)) }
     ensures others { (wire : Wire C C.Signature) (size : ℕ) (node : ℕ → Made C C.Signature) →
         OfAll wire size node (OfEachReply wire size node (LeavesOtherNodes wire size node)) }
-    ensures greetings { (size : ℕ) (node : ℕ → Made C C.Signature) →
-        let wire = wire_of C.verifies C.FixedBytes C.Signature.FixedBytes in
+    ensures greetings { (verifies : C → List ℕ → List ℕ → C.Signature → Bool) →
+        (size : ℕ) (node : ℕ → Made C C.Signature) →
+        let wire = wire_of verifies C.FixedBytes C.Signature.FixedBytes in
         AreMade wire size node C.cmp →
         ((i : ℕ) → is_node wire size node i ≡ true → IsInfo (node i).directory.own) →
         ((i : ℕ) → is_node wire size node i ≡ true →
         IsKeyed C.IsValue C.Signature.IsValue (node i).directory.own) →
         OfAnswers wire size node (OfEachReply wire size node (TakesGreeting wire size node)) }
-    ensures late { (size : ℕ) (node : ℕ → Made C C.Signature) →
-        let wire = wire_of C.verifies C.FixedBytes C.Signature.FixedBytes in
+    ensures late { (verifies : C → List ℕ → List ℕ → C.Signature → Bool) →
+        (size : ℕ) (node : ℕ → Made C C.Signature) →
+        let wire = wire_of verifies C.FixedBytes C.Signature.FixedBytes in
         AreMade wire size node C.cmp → OfAnswers wire size node (OfEachReply wire size node
         (TakesFrame wire size node C.IsValue C.Signature.IsValue)) }
-    ensures replies { (size : ℕ) (node : ℕ → Made C C.Signature) →
-        let wire = wire_of C.verifies C.FixedBytes C.Signature.FixedBytes in
+    ensures replies { (verifies : C → List ℕ → List ℕ → C.Signature → Bool) →
+        (size : ℕ) (node : ℕ → Made C C.Signature) →
+        let wire = wire_of verifies C.FixedBytes C.Signature.FixedBytes in
         AreMade wire size node C.cmp →
         ((i : ℕ) → is_node wire size node i ≡ true → (node i).limits.max_bit_vec < 2 ^ 32) →
         OfAnswers wire size node (λ done cs rs.

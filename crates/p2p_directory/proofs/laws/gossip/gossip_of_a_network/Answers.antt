@@ -54,22 +54,22 @@ returns-clause-others g c = λ wire size node.
     (Provenance.leaves_others wire size node) []
 
 pub returns-clause-greetings : goal.returns-clause-greetings
-returns-clause-greetings g c = λ size node made is_info is_keyed.
-    let wire = wire_in g.C.PublicKey.verifies g.C.FixedBytes g.C.Signature.FixedBytes in
+returns-clause-greetings g c = λ verifies size node made is_info is_keyed.
+    let wire = wire_in verifies g.C.FixedBytes g.C.Signature.FixedBytes in
     Provenance.of_each_reply wire size node (law.TakesGreeting wire size node)
     (λ done answered. Frames.takes_greeting g.met.C.FixedBytes.fixed
-    g.met.C.Signature.FixedBytes.fixed g.C.PublicKey.verifies size node g.C.Ord.cmp made is_info
+    g.met.C.Signature.FixedBytes.fixed verifies size node g.C.Ord.cmp made is_info
     is_keyed done) [] tt
 
 pub returns-clause-late : goal.returns-clause-late
-returns-clause-late g c = λ size node made.
-    let wire = wire_in g.C.PublicKey.verifies g.C.FixedBytes g.C.Signature.FixedBytes in
+returns-clause-late g c = λ verifies size node made.
+    let wire = wire_in verifies g.C.FixedBytes g.C.Signature.FixedBytes in
     Provenance.of_each_reply wire size node _
     (λ done answered. Frames.takes_frame g.met.C.FixedBytes.fixed
-    g.met.C.Signature.FixedBytes.fixed g.C.PublicKey.verifies size node g.C.Ord.cmp
+    g.met.C.Signature.FixedBytes.fixed verifies size node g.C.Ord.cmp
     g.met.C.Ord.total g.met.C.PublicKey.exact made done) [] tt
 
 pub returns-clause-replies : goal.returns-clause-replies
-returns-clause-replies g c = λ size node made few.
+returns-clause-replies g c = λ verifies size node made few.
     Replied.keep_replies g.met.C.FixedBytes.fixed g.met.C.Signature.FixedBytes.fixed
-    g.C.PublicKey.verifies size node g.C.Ord.cmp g.met.C.PublicKey.exact made few [] tt tt
+    verifies size node g.C.Ord.cmp g.met.C.PublicKey.exact made few [] tt tt
