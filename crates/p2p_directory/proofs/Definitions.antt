@@ -12,6 +12,7 @@ pub mod ExchangePremises
 pub mod LatePremises
 mod CarriedExamples
 mod ForeignNodes
+mod VerdictExamples
 pub mod ByteKeys
 pub mod ShownRun
 pub mod RunPremises

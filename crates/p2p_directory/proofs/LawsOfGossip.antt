@@ -10,3 +10,5 @@ pub mod Repeated
 pub mod Brought
 pub mod Greetings
 pub mod Late
+pub mod Verdicts
+pub mod FramesByVerdicts

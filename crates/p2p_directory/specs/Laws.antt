@@ -19,6 +19,8 @@ pub mod Effects
 -- .. and those in Gossip and LateFrames in what is promised of nodes that exchange infos.
 pub mod Gossip
 pub mod LateFrames
+-- .. and those in Verdicts in what is promised where others verify signatures.
+pub mod Verdicts
 -- .. and those in Network in what is promised of any number of nodes.
 pub mod Network
 -- .. of which two nodes are a case.

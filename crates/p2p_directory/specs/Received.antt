@@ -12,6 +12,7 @@ use Rattle.p2p_discovery.specs.declared.discovery.Payload.TheVariants as said
 use Rattle.p2p_discovery.specs.declared.discovery.PayloadConfig.{PayloadConfig}
 use Rattle.p2p_discovery.specs.Reading.{Reading, whole}
 use Rattle.p2p_discovery.specs.Judgement.{Judge, refusal_if, list_refusal_by, verdicts_on}
+use Rattle.p2p_discovery.specs.Judgement.{judged_before, to_verify}
 use Rattle.p2p_discovery.specs.Payload.{payload_spelling, payload_at, infos_of_payload}
 use Rattle.p2p_directory.specs.declared.node.received.Answer.{Answer}
 use Rattle.p2p_directory.specs.declared.node.received.Answer.TheVariants as answer
@@ -108,6 +109,12 @@ IsWantOfMemory _ = ⊥
 -- whether each signature of what a payload has of infos is right, in their order
 abbrev pub verdicts_of : {C S : Type 0} → Judge C S → Payload C S → List Bool
 verdicts_of judge payload = verdicts_on judge (infos_of_payload payload)
+
+-- the infos of a payload whose signatures decide at a moment, in their order
+abbrev pub to_ask : {C S : Type 0} → Judge C S → ℕ → Payload C S → List (Info C S)
+to_ask judge now (said.Greeting i) = judged_before judge now (i ∷ [])
+to_ask judge now (said.Peers is) = to_verify judge now is
+to_ask judge now _ = []
 
 -- what is said of the first info; one of which nothing is said has no right signature
 abbrev pub first_verdict : List Bool → Bool

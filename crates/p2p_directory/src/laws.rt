@@ -8,7 +8,9 @@ pub use crate::laws::directories::{
 };
 pub use crate::laws::gossip::{exchanges_are_carried, gossip_of_a_network, infos_may_come_late};
 pub use crate::laws::runs::laws_of_a_run;
+pub use crate::laws::verdicts::{judged_by, verdicts_suffice};
 
 mod directories;
 mod gossip;
 mod runs;
+mod verdicts;

@@ -10,6 +10,7 @@ ghost use Rattle.p2p_directory.specs.Nodes.{AtEach};
 ghost use Rattle.p2p_discovery.specs.Payload.{payload_at};
 ghost use Rattle.p2p_discovery.specs.Reading.{GivesAs, whole};
 ghost use Rattle.p2p_directory.specs.Laws.LateFrames.{TakesLateAt};
+ghost use Rattle.p2p_directory.specs.Laws.Verdicts.{IsJudged};
 
 use crate::node::Node;
 use crate::node::decoded::Decoded;
@@ -86,6 +87,11 @@ impl<C: PublicKey> Node<C> {
     /// [`Node::receive`] if [`PublicKey::verify`] returned these values, but the infos of a reply
     /// aren't encoded.
     ///
+    /// Any predicate may say which signatures are valid. Its results are needed only for the infos
+    /// that `count_to_verify` of the verifier counts at the same time, up to the first invalid
+    /// one. The others may be anything: the frame was received as by that predicate, and infos may
+    /// arrive late as [`Node::receive`] says.
+    ///
     /// # Errors
     ///
     /// `Miscounted` if the number of infos of the payload that the frame encodes differs from the
@@ -105,6 +111,9 @@ impl<C: PublicKey> Node<C> {
             (as_nanos now) (received_of wire a) self.old self.new) }
         ensures received { let wire = ⟦<C as Frames>⟧.wire in
             IfOk result (λ a. IsReceived C.cmp wire (given_verdicts verdicts.now) frame
+            (as_nanos now) (received_of wire a) self.old self.new) }
+        ensures judged { let wire = ⟦<C as Frames>⟧.wire in
+            IfOk result (λ a. IsJudged C.cmp wire C.IsValue C.Signature.IsValue verdicts.now frame
             (as_nanos now) (received_of wire a) self.old self.new) }
         ensures unchanged { IfOk result (λ a. applies (received_of ⟦<C as Frames>⟧.wire a) ≡ false →
             self.new ≡ self.old) }
@@ -163,6 +172,9 @@ impl<C: PublicKey> Node<C> {
         ensures received { let wire = ⟦<C as Frames>⟧.wire in
             IfOk result (λ a. IsReceived C.cmp wire (given_verdicts verdicts.now) decoded.frame
             (as_nanos now) (received_of wire a) self.old self.new) }
+        ensures judged { let wire = ⟦<C as Frames>⟧.wire in
+            IfOk result (λ a. IsJudged C.cmp wire C.IsValue C.Signature.IsValue verdicts.now
+            decoded.frame (as_nanos now) (received_of wire a) self.old self.new) }
         ensures unchanged { IfOk result (λ a. applies (received_of ⟦<C as Frames>⟧.wire a) ≡ false →
             self.new ≡ self.old) }
         ensures counted { let wire = ⟦<C as Frames>⟧.wire in
