@@ -11,7 +11,7 @@ ghost use Rattle.p2p_discovery.specs.declared.discovery.Error.TheVariants.{Inval
 ghost use Rattle.p2p_directory.specs.Received.{Wire, Standing, first_verdict, verdicts_of};
 ghost use Rattle.p2p_directory.specs.Received.{received_by, received_at};
 ghost use Rattle.p2p_directory.specs.Nodes.{Made, NodeView, IsReceivedAt, given_verdicts};
-ghost use Rattle.p2p_directory.specs.Nodes.{standing_in};
+ghost use Rattle.p2p_directory.specs.Nodes.{standing_in, standing_of, AnswersFrame};
 ghost use Rattle.p2p_directory.specs.Run.{world_after};
 ghost use Rattle.p2p_directory.specs.Laws.Verdicts.{judge_with, wire_with, standing_with};
 ghost use Rattle.p2p_directory.specs.Laws.Verdicts.{AreToldBy, AreToldOf};
@@ -55,6 +55,12 @@ pub fn judged_by<C: PublicKey>()
         (verdicts : List Bool) → AreToldOf verifies wire node frame now verdicts →
         received_by wire (λ _. verdicts) node frame now
         ≡ received_at (wire_with verifies wire) (standing_with verifies node) frame now }
+    ensures seen { (verifies : C → List ℕ → List ℕ → C.Signature → Bool)
+        (wire : Wire C C.Signature) (frame : List ℕ) (now : ℕ) (verdicts : List Bool)
+        (r : Received C C.Signature) (v v2 : NodeView C C.Signature) →
+        AreToldOf verifies wire (standing_of C.cmp wire v) frame now verdicts →
+        AnswersFrame C.cmp wire (given_verdicts verdicts) frame now r v v2 →
+        AnswersFrame C.cmp (wire_with verifies wire) verdicts_of frame now r v v2 }
     ensures received { (verifies : C → List ℕ → List ℕ → C.Signature → Bool)
         (m : Made C C.Signature) (wire : Wire C C.Signature) (calls : List (Call C C.Signature))
         (frame : List ℕ) (now : ℕ) (verdicts : List Bool) (r : Received C C.Signature)
