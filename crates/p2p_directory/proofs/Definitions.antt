@@ -13,6 +13,7 @@ pub mod LatePremises
 mod CarriedExamples
 mod ForeignNodes
 mod VerdictExamples
+mod InTurnExamples
 pub mod ByteKeys
 pub mod ShownRun
 pub mod RunPremises

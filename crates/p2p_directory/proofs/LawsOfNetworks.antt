@@ -6,5 +6,6 @@ pub mod Reach
 pub mod Frames
 pub mod Replied
 pub mod Laws
+pub mod InTurn
 -- .. of which two nodes are a case.
 pub mod TwoNodes

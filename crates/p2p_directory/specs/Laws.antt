@@ -25,3 +25,5 @@ pub mod Verdicts
 pub mod Network
 -- .. of which two nodes are a case.
 pub mod TwoNodes
+-- .. and nodes that are driven each by its own calls.
+pub mod InTurn

@@ -6,7 +6,9 @@ pub use crate::laws::directories::{
     effects_refine, grants_are_spaced, order_is_free, others_may_be_left_out, presence_is_bounded,
     recomputed_is_one_step, refined_answers,
 };
-pub use crate::laws::gossip::{exchanges_are_carried, gossip_of_a_network, infos_may_come_late};
+pub use crate::laws::gossip::{
+    exchanges_are_carried, gossip_of_a_network, infos_may_come_late, nodes_are_a_network,
+};
 pub use crate::laws::runs::laws_of_a_run;
 pub use crate::laws::verdicts::{judged_by, verdicts_suffice};
 

@@ -9,8 +9,7 @@ use Rattle.p2p_discovery.specs.declared.discovery.Error.TheVariants.{InvalidSign
 use Rattle.p2p_discovery.specs.declared.discovery.Error.TheVariants.{SynchronyBound}
 use Rattle.p2p_discovery.specs.declared.discovery.Info.{Info}
 use Rattle.p2p_discovery.specs.Judgement.{Judge, judge_of, refusal, refusal_if, list_refusal}
-use Rattle.p2p_discovery.specs.Judgement.{list_refusal_by}
-use Rattle.p2p_discovery.specs.Judgement.{judged_before, to_verify}
+use Rattle.p2p_discovery.specs.Judgement.{list_refusal_by, judged_before, to_verify}
 use Rattle.p2p_discovery.specs.Payload.{body_at, payload_at}
 use Rattle.p2p_discovery.specs.Data.{data_at, message_at}
 use Rattle.p2p_discovery.specs.Counted.{length_at}

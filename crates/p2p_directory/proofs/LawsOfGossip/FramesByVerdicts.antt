@@ -1,6 +1,6 @@
 -- A frame that is received by verdicts that a predicate tells is received by that predicate.
-use Rattle.std.proofs.Common.{◌≡◌, ℕ, Bool, List, Option, Some, None}
-use Rattle.std.proofs.Common.{Result, Ok, Err, refl, sym, ◌∙◌, ap, subst}
+use Rattle.std.proofs.Common.{◌≡◌, ℕ, Bool, List, Option, Some, None, Result, Ok, Err, refl, sym}
+use Rattle.std.proofs.Common.{◌∙◌, ap, subst}
 use Rattle.std.specs.Prelude.{◌||◌}
 use Rattle.std.specs.Cmp.{IsTotalOrder}
 use Rattle.std.specs.declared.cmp.Ordering.{Ordering}
@@ -17,16 +17,14 @@ use Rattle.p2p_tracker.specs.Calls.{Call}
 use Rattle.p2p_directory.specs.declared.node.received.Received.{Received}
 use Rattle.p2p_directory.specs.Received as frames
 use Rattle.p2p_directory.specs.Received.{Wire, Standing, FrameOutcome, greeted, replied, taken}
-use Rattle.p2p_directory.specs.Received.{answered_by, read_by, read_at}
-use Rattle.p2p_directory.specs.Received.{received_by, received_at, takes_room, to_ask, verdicts_of}
-use Rattle.p2p_directory.specs.Received.{applied_with}
+use Rattle.p2p_directory.specs.Received.{answered_by, read_by, read_at, received_by, received_at}
+use Rattle.p2p_directory.specs.Received.{takes_room, to_ask, verdicts_of, applied_with}
 use Rattle.p2p_directory.specs.Run.{world_after}
 use Rattle.p2p_directory.specs.Nodes.{Made, NodeView, NodeStandsAt, IsReceivedAt, IsReceived}
-use Rattle.p2p_directory.specs.Nodes.{AnswersFrame, IsLeft}
-use Rattle.p2p_directory.specs.Nodes.{made_of, standing_in, standing_of, calls_with, given_verdicts}
+use Rattle.p2p_directory.specs.Nodes.{AnswersFrame, IsLeft, made_of, standing_in, standing_of}
+use Rattle.p2p_directory.specs.Nodes.{calls_with, given_verdicts}
 use Rattle.p2p_directory.specs.Laws.Verdicts.{judge_with, wire_with, standing_with, AreToldBy}
-use Rattle.p2p_directory.specs.Laws.Verdicts.{AreToldOfReading}
-use Rattle.p2p_directory.specs.Laws.Verdicts.{AreToldOf, IsJudged}
+use Rattle.p2p_directory.specs.Laws.Verdicts.{AreToldOfReading, AreToldOf, IsJudged}
 use Rattle.p2p_directory.proofs.Nodes.Frames.{frame_may_want_memory}
 use Rattle.p2p_directory.proofs.Nodes.ReadBack.{wire_by}
 use Rattle.p2p_directory.proofs.Nodes.Worlds.{received_in}

@@ -9,9 +9,8 @@ use Rattle.p2p_discovery.specs.declared.discovery.Error.TheVariants.{InvalidSign
 use Rattle.p2p_discovery.specs.declared.discovery.Error.TheVariants.{SynchronyBound}
 use Rattle.p2p_discovery.specs.declared.discovery.Info.{Info}
 use Rattle.p2p_discovery.specs.Judgement.{Judge, first_of, is_signed, is_too_late, refusal_if}
-use Rattle.p2p_discovery.specs.Judgement.{refusal, first_refusal_by}
-use Rattle.p2p_discovery.specs.Judgement.{first_refusal, list_refusal_by, list_refusal}
-use Rattle.p2p_discovery.specs.Judgement.{judged_before, to_verify}
+use Rattle.p2p_discovery.specs.Judgement.{refusal, first_refusal_by, first_refusal, list_refusal_by}
+use Rattle.p2p_discovery.specs.Judgement.{list_refusal, judged_before, to_verify}
 use Rattle.p2p_directory.specs.Received.{first_verdict}
 use Rattle.p2p_directory.specs.Laws.Verdicts.{judge_with, AreToldBy}
 

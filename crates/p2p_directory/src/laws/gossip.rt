@@ -1,6 +1,6 @@
 //! Laws of the frames and the exchanges of nodes.
 
-ghost use Rattle.std.specs.Prelude.{◌≡◌, ◌<◌, ◌^◌, ℕ, Bool, true, List};
+ghost use Rattle.std.specs.Prelude.{◌≡◌, ◌<◌, ◌^◌, ℕ, Bool, true, List, []};
 ghost use Rattle.p2p_tracker.specs.Calls.{Call};
 ghost use Rattle.p2p_discovery.specs.Info.{IsInfo, IsKeyed};
 ghost use Rattle.p2p_directory.specs.Received.{Wire, Standing, verdicts_of, wire_of};
@@ -10,7 +10,10 @@ ghost use Rattle.p2p_directory.specs.Exchange.{CanBeSpelled, IsCarried};
 ghost use Rattle.p2p_directory.specs.Laws.Gossip.{IsMade};
 ghost use Rattle.p2p_directory.specs.Laws.LateFrames.{TakesLateAt};
 ghost use Rattle.p2p_directory.specs.declared.node.received.Received.{Received};
-ghost use Rattle.p2p_directory.specs.Network.{is_node};
+ghost use Rattle.p2p_directory.specs.declared.node.setup.Setup.{Setup};
+ghost use Rattle.p2p_directory.specs.Network.{is_node, OfNetwork, StandAfter};
+ghost use Rattle.p2p_directory.specs.Laws.InTurn.{Steps, AreServedInTurn, not_refused};
+ghost use Rattle.p2p_directory.specs.Laws.InTurn.{IsNetworkRun};
 ghost use Rattle.p2p_directory.specs.Laws.Network.{AreMade, OfAll, OfAnswers, AtEachPoint};
 ghost use Rattle.p2p_directory.specs.Laws.Network.{PointLaws, Provenance, GivesSigned, HoldSigned};
 ghost use Rattle.p2p_directory.specs.Laws.Network.{OnlyGetNewer, Isolate, Reorder, OfEachReply};
@@ -47,6 +50,18 @@ pub fn exchanges_are_carried<C: PublicKey>()
         CanBeSpelled C.IsValue C.Signature.IsValue asker replier place t →
         (o : ExchangeOutcome C C.Signature) → IsCarried wire asker replier place s t o →
         o ≡ exchanged_at asker replier place s t }
+{}
+
+/// By a law of gossip, nodes that are driven each by its own calls are a network: what is done to
+/// them in turn, from their start, is a run of one. The calls refused for memory count as not made.
+/// So the laws of gossip hold of them, over the wire over which they receive frames. docs/PROOFS.md
+/// has this below "Nodes and gossip".
+pub fn nodes_are_a_network<C: PublicKey>()
+    ensures { (wire : Wire C C.Signature) (setups : List (Setup C C.Signature))
+        (steps : Steps C C.Signature) (vs vs2 : List (NodeView C C.Signature)) →
+        OfNetwork C.cmp setups (λ size node. StandAfter wire size node [] vs →
+        AreServedInTurn C.cmp wire steps vs vs2 →
+        IsNetworkRun wire size node (not_refused steps) vs2) }
 {}
 
 /// The laws of gossip of any number of nodes, by the replies to what is done to them from their
