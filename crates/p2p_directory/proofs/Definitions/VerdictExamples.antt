@@ -1,8 +1,10 @@
 -- Computed values of verdicts on signatures, worked out by hand beforehand: some that suffice at a
 -- moment, some that don't, and some that no longer do. The node's own keys have no right signature.
 use Rattle.std.proofs.Common.{◌≡◌, ℕ, Bool, true, false, List, [], ◌∷◌, ◌++◌, Option, Some, None}
-use Rattle.std.proofs.Common.{refl}
+use Rattle.std.proofs.Common.{refl, arith}
 use Rattle.std.specs.Ordering.{nat_cmp}
+use Rattle.std.specs.Prelude.{◌⊎◌}
+use Rattle.std.proofs.lemmas.Cmp.{nat_cmp_total}
 use Rattle.p2p_discovery.specs.declared.discovery.Error.{Error}
 use Rattle.p2p_discovery.specs.declared.discovery.Error.TheVariants.{TooManyPeers, ReceivedSelf}
 use Rattle.p2p_discovery.specs.declared.discovery.Error.TheVariants.{InvalidSignature}
@@ -21,12 +23,23 @@ use Rattle.p2p_discovery.specs.BitVec.{bits_read_at, bit_vec_read_at}
 use Rattle.p2p_discovery.specs.Bits.{bits_in, packed}
 use Rattle.p2p_discovery.specs.Lists.{spellings, elems, items_at, list_at}
 use Rattle.p2p_tracker.specs.History.{life}
+use Rattle.p2p_tracker.specs.Calls.{Call}
 use Rattle.p2p_directory.specs.declared.node.received.Received.TheVariants as received
+use Rattle.p2p_directory.specs.declared.node.received.Received.{Received}
 use Rattle.p2p_directory.specs.Received.{Wire, Standing, FrameOutcome, first_verdict, received_at}
-use Rattle.p2p_directory.specs.Received.{received_by, only, applying}
-use Rattle.p2p_directory.specs.Nodes.{standing_in}
+use Rattle.p2p_directory.specs.Received.{verdicts_of, received_by, only, applying}
+use Rattle.p2p_directory.specs.Run.{world_after}
+use Rattle.p2p_directory.specs.Nodes.{standing_in, NodeView, IsReceivedAt, given_verdicts}
+use Rattle.p2p_directory.specs.Laws.Gossip.{IsMade}
+use Rattle.p2p_directory.specs.Laws.LateFrames.{FitsAt, IsTaken}
 use Rattle.p2p_directory.specs.Laws.Verdicts.{judge_with, AreToldBy, AreToldOf}
+use Rattle.p2p_directory.proofs.Nodes.Frames.{frame_may_want_memory}
 use Rattle.p2p_directory.proofs.Nodes.ReadBack.{wire_by}
+use Rattle.p2p_directory.proofs.LawsOfGossip.FramesByVerdicts.{received_over}
+use Rattle.p2p_directory.proofs.LawsOfGossip.Late.{takes_late}
+use Rattle.p2p_directory.proofs.Definitions.ByteKeys.{is_fixed, spells}
+use Rattle.p2p_directory.proofs.Definitions.LatePremises.{peers_1}
+use Rattle.p2p_directory.proofs.Definitions.RunPremises.{exact}
 use Rattle.p2p_directory.proofs.Definitions.Setting.{sec}
 use Rattle.p2p_directory.proofs.Definitions.GossipExamples.{one, wire, signed, signed_elsewhere}
 use Rattle.p2p_directory.proofs.Definitions.GossipExamples.{asker, asker_calls, at, stands}
@@ -231,3 +244,27 @@ unfolding life payload_at body_at data_at message_at length_at groups groups_at 
     ingress_at ip_at socket_at bits_read_at bit_vec_read_at bits_in packed spellings elems items_at
     list_at
 not_told_of_frame h = wrong (h.1 refl).0
+
+-- ---- a late frame: whatever was done to the node before, which has no right signature by its keys
+
+made : IsMade nat_cmp asker
+made = record { order = refl; me = refl; sets = omega arith }
+
+fits : FitsAt asker (sec 100) (sec 70) (signed 1 100000 ∷ [])
+fits = record { peers = omega arith; count = omega arith; moments = omega arith }
+
+late_is_taken : (calls : List (Call ℕ ℕ)) (r : Received ℕ ℕ) (v : NodeView ℕ ℕ) →
+    IsReceivedAt asker wire_of_none calls (given_verdicts (true ∷ [])) peers_1 (sec 70) r v →
+    (r ≡ received.Applied 1) ⊎ (r ≡ received.Memory)
+unfolding payload_at body_at data_at message_at length_at groups groups_at texts.info_at
+    ingress_at ip_at socket_at bits_read_at bit_vec_read_at bits_in packed spellings elems items_at
+    list_at
+late_is_taken calls r v is =
+    let over : IsReceivedAt asker wire calls verdicts_of peers_1 (sec 70) r v =
+    received_over wire.verifies wire_of_none (sec 70) (true ∷ []) asker calls peers_1 r v
+    (refl, λ e. tt) is in
+    let taken : IsTaken asker calls (signed 1 100000 ∷ []) r _ =
+    takes_late is_fixed is_fixed wire.verifies nat_cmp nat_cmp_total exact asker made calls peers_1
+    (sec 70) r (frame_may_want_memory wire (standing_in asker wire (world_after asker.directory
+    calls)) peers_1 (sec 70)) over.answer (sec 100) (signed 1 100000 ∷ []) spells fits in
+    taken.answer

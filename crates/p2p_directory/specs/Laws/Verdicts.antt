@@ -1,5 +1,5 @@
--- What is told to a node of signatures by whoever verifies them, by any predicate of a key, a
--- namespace, the signed bytes and a signature: which signatures are right.
+-- What a node is told of signatures by whoever verifies them. Any predicate of a key, a namespace,
+-- the signed bytes and a signature may say which are right.
 use Rattle.std.specs.Prelude.{ℕ, ◌≡◌, Bool, true, List, [], ◌∷◌, Result, Ok, Err}
 use Rattle.std.specs.declared.cmp.Ordering.{Ordering}
 use Rattle.p2p_discovery.specs.declared.codec.error.CodecError.{CodecError}
@@ -13,21 +13,20 @@ use Rattle.p2p_directory.specs.Nodes.{NodeView, standing_of, AtEach, AnswersFram
 use Rattle.p2p_directory.specs.Laws.LateFrames.{TakesLateAt}
 
 module _ {C S : Type 0} (verifies : C → List ℕ → List ℕ → S → Bool) where
-  -- the judge that takes these signatures for right
+  -- the same judge, but by this predicate
   abbrev pub judge_with : Judge C S → Judge C S
   judge_with judge = record judge { verifies = verifies }
 
-  -- .. the wire
+  -- .. the same wire
   abbrev pub wire_with : Wire C S → Wire C S
   wire_with wire = record wire { verifies = verifies }
 
-  -- .. a node as it stands
+  -- .. a node that stands the same
   abbrev pub standing_with : Standing C S → Standing C S
   standing_with node = record node { judge = judge_with node.judge }
 
-  -- verdicts on infos that are to be verified in a namespace, in their order: each is that of the
-  -- predicate, up to the first on a wrong signature; behind that, and behind these infos, they are
-  -- anything
+  -- of infos that are to be verified in a namespace, in their order, each verdict is that of the
+  -- predicate, up to the first wrong signature; behind that, and behind these infos, it is anything
   abbrev pub AreToldBy : List ℕ → List (Info C S) → List Bool → Type 0
   AreToldBy namespace [] verdicts = Unit {0}
   AreToldBy namespace (i ∷ asked) [] = ⊥
@@ -35,14 +34,14 @@ module _ {C S : Type 0} (verifies : C → List ℕ → List ℕ → S → Bool) 
       (right ≡ is_signed_in verifies namespace i)
       × (right ≡ true → AreToldBy namespace asked verdicts)
 
-  -- .. on those of a payload that was read whose signatures decide at a moment
+  -- .. of those whose signatures decide at a moment, in a payload that was read
   abbrev pub AreToldOfReading : Judge C S → ℕ → Result (Payload C S × List ℕ) CodecError →
       List Bool → Type 0
   AreToldOfReading judge now (Ok x) verdicts =
       AreToldBy judge.namespace (to_ask judge now x.0) verdicts
   AreToldOfReading judge now (Err fault) verdicts = Unit {0}
 
-  -- .. of a frame, where it spells a payload that the node admits
+  -- .. in a frame, where it spells a payload that the node admits
   abbrev pub AreToldOf : Wire C S → Standing C S → List ℕ → ℕ → List Bool → Type 0
   AreToldOf wire node frame now =
       AreToldOfReading node.judge now (whole (wire.reading node.limits) frame).outcome
@@ -51,14 +50,15 @@ module _ {C S : Type 0} (verifies : C → List ℕ → List ℕ → S → Bool) 
 
 module _ {C S : Type 0} (cmp : C → C → Ordering) (wire : Wire C S) (IsKey : C → Type 0)
     (IsSignature : S → Type 0) where
-  -- the node received it by the signatures that are right over the wire; its infos may come late
+  -- the node received it by the signatures that are right over the wire, and its infos may have come
+  -- late
   pub record ReceivesOver (frame : List ℕ) (now : ℕ) (r : Received C S)
       (v v2 : NodeView C S) : Type 0 where
     pub seen : AnswersFrame cmp wire verdicts_of frame now r v v2
     pub received : IsReceived cmp wire verdicts_of frame now r v v2
     pub late : AtEach cmp v (λ m calls. TakesLateAt wire IsKey IsSignature m calls frame now r)
 
--- .. whatever predicate the verdicts are told by, it received it over the wire with that
+-- by verdicts it received it as over the wire with each predicate that they are told by
 abbrev pub IsJudged : {C S : Type 0} → (C → C → Ordering) → Wire C S → (C → Type 0) →
     (S → Type 0) → List Bool → List ℕ → ℕ → Received C S → NodeView C S → NodeView C S → Type 0
 IsJudged {C} {S} cmp wire IsKey IsSignature verdicts frame now r v v2 =

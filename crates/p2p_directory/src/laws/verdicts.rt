@@ -19,11 +19,11 @@ ghost use Rattle.p2p_directory.specs.declared.node.received.Received.{Received};
 
 use p2p_discovery::codec::PublicKey;
 
-/// By a law of verification, the signatures of the infos that are listed for it decide, and no
-/// others: whatever predicate says which signatures are valid, its results for these infos, up to
-/// the first invalid one, give the same error at that time as the predicate. All results behind
-/// these may be anything. And each listed signature decides: if it is invalid and those before it
-/// are valid, that is the error. docs/PROOFS.md has this below "Verification by others".
+/// By a law of verification, just the signatures decide that `count_to_verify` counts. Whatever
+/// predicate says which signatures are valid, its results for these infos, up to the first invalid
+/// one, give at that time the same error as the predicate itself, and all other results may be
+/// anything. And each of these signatures is needed: if it is invalid, and those before it are
+/// valid, that is the error. docs/PROOFS.md has this below "Verification results".
 pub fn verdicts_suffice<C: PublicKey>()
     ensures list { (verifies : C → List ℕ → List ℕ → C.Signature → Bool)
         (judge : Judge C C.Signature) (now : ℕ) (infos : List (Info C C.Signature))
@@ -46,9 +46,9 @@ pub fn verdicts_suffice<C: PublicKey>()
         ≡ refusal (judge_with verifies judge) now info }
 {}
 
-/// By a law of verification, a frame that a node received by such results is a frame that it
-/// received by the predicate: it returns the same, and applies the same infos. docs/PROOFS.md has
-/// this below "Verification by others".
+/// By a law of verification, a frame that a node receives by such results is received as by the
+/// predicate: it returns the same, and applies the same infos. docs/PROOFS.md has this below
+/// "Verification results".
 pub fn judged_by<C: PublicKey>()
     ensures outcome { (verifies : C → List ℕ → List ℕ → C.Signature → Bool)
         (wire : Wire C C.Signature) (node : Standing C C.Signature) (frame : List ℕ) (now : ℕ)
