@@ -122,7 +122,8 @@ too_many = (refl, refl, refl)
 
 -- ---- a later moment
 
--- the second info is of the future at 100 s, and its signature is wrong
+-- the second info is of the future at 100 s, and its signature is wrong. That doesn't decide: a list
+-- with it would be too long
 abbrev early : List (Info ℕ ℕ)
 early = signed 1 1000 ∷ signed_elsewhere 2 200000 ∷ []
 

@@ -50,7 +50,7 @@ module _ {C S : Type 0} (verifies : C → List ℕ → List ℕ → S → Bool) 
 
 module _ {C S : Type 0} (cmp : C → C → Ordering) (wire : Wire C S) (IsKey : C → Type 0)
     (IsSignature : S → Type 0) where
-  -- the node received it by the signatures that are right over the wire, and its infos may have come
+  -- the node received it by the signatures that are right over the wire; its infos may have come
   -- late
   pub record ReceivesOver (frame : List ℕ) (now : ℕ) (r : Received C S)
       (v v2 : NodeView C S) : Type 0 where
