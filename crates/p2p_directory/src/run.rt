@@ -59,8 +59,8 @@ pub(crate) mod slots;
 ///
 /// # Cost
 ///
-/// That of the calls, and for each `Dial`, `Listen` and `Release` a logarithm of the number of peers
-/// of all `Dial` and `Listen` commands.
+/// That of the calls, and for each `Dial`, `Listen` and `Release` a logarithm of the number of
+/// peers of all `Dial` and `Listen` commands.
 pub fn run<C: PublicKey>(
     alloc: Global,
     bootstrappers: Vec<(C, Ingress)>,

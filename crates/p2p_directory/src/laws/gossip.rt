@@ -65,10 +65,10 @@ pub fn nodes_are_a_network<C: PublicKey>()
 {}
 
 /// The laws of gossip of any number of nodes, by the replies to what is done to them from their
-/// start: what [`run_network`](crate::node::run_network) promises, in words in docs/PROOFS.md. Any
-/// predicate may say which signatures are valid, not only [`PublicKey::verify`]. Laws that have
-/// fewer premises than all at a point are said by themselves, too. Infos, newer, isolation, order
-/// and others are laws of the definitions: they hold whatever the replies.
+/// start, in words in docs/PROOFS.md. Any predicate may say which signatures are valid, not only
+/// [`PublicKey::verify`]. Laws that have fewer premises than all at a point are said by themselves,
+/// too. Infos, newer, isolation, order and others are laws of the definitions: they hold whatever
+/// the replies. The others [`run_network`](crate::node::run_network) promises.
 pub fn gossip_of_a_network<C: PublicKey>()
     ensures at_each_point { (wire : Wire C C.Signature) (size : ℕ) (node : ℕ → Made C C.Signature) →
         AreMade wire size node C.cmp → OfAnswers wire size node
