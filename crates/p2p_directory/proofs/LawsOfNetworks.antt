@@ -7,5 +7,6 @@ pub mod Frames
 pub mod Replied
 pub mod Laws
 pub mod InTurn
+pub mod ExchangeFrames
 -- .. of which two nodes are a case.
 pub mod TwoNodes

@@ -27,3 +27,5 @@ pub mod Network
 pub mod TwoNodes
 -- .. and nodes that are driven each by its own calls.
 pub mod InTurn
+-- .. of which the frames of an exchange are some.
+pub mod ExchangeFrames
