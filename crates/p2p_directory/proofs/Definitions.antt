@@ -14,6 +14,7 @@ mod CarriedExamples
 mod ForeignNodes
 mod VerdictExamples
 mod InTurnExamples
+mod ExchangeFramesExamples
 pub mod ByteKeys
 pub mod ShownRun
 pub mod RunPremises

@@ -7,7 +7,8 @@ pub use crate::laws::directories::{
     recomputed_is_one_step, refined_answers,
 };
 pub use crate::laws::gossip::{
-    exchanges_are_carried, gossip_of_a_network, infos_may_come_late, nodes_are_a_network,
+    exchanges_are_carried, frames_are_an_exchange, gossip_of_a_network, infos_may_come_late,
+    nodes_are_a_network,
 };
 pub use crate::laws::runs::laws_of_a_run;
 pub use crate::laws::verdicts::{judged_by, verdicts_suffice};

@@ -211,7 +211,7 @@ before_late brought none = after (applied brought none) after_refused
 
 -- EACH REPLY IS THE ANSWER
 
-are_first : AreSteps [] first
+pub are_first : AreSteps [] first
 unfolding life IsStrictlySortedBy payload_at body_at data_at message_at length_at groups groups_at texts.info_at
     ingress_at ip_at socket_at bits_read_at bit_vec_read_at bits_in packed spellings elems items_at list_at
 are_first = (

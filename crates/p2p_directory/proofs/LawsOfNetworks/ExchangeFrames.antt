@@ -25,7 +25,8 @@ use Rattle.p2p_directory.specs.declared.node.network.commands.NetworkReply.TheVa
 use Rattle.p2p_tracker.specs.Calls.{Call, SetAt}
 use Rattle.p2p_tracker.specs.Answers.{set_at_place, bits_of}
 use Rattle.p2p_directory.specs.Received as frames
-use Rattle.p2p_directory.specs.Received.{Wire, Standing, FrameOutcome, applies, received_at, read_at}
+use Rattle.p2p_directory.specs.Received.{Wire, Standing, FrameOutcome, applies, received_at}
+use Rattle.p2p_directory.specs.Received.{read_at}
 use Rattle.p2p_directory.specs.Received.{greeted, replied, taken, only, applying, ask_frame_at}
 use Rattle.p2p_directory.specs.Run as run
 use Rattle.p2p_directory.specs.Run.{call_of, world_after, bit_vec_of}
@@ -42,7 +43,8 @@ use Rattle.p2p_directory.specs.Laws.ExchangeFrames.{ExchangeFrames, names, NameN
 use Rattle.p2p_directory.specs.Laws.ExchangeFrames.{IsRefusedReply, IsTakenReply}
 use Rattle.p2p_directory.specs.Laws.ExchangeFrames.{frame_steps, exchange_steps, ComeTo}
 use Rattle.p2p_directory.specs.Laws.ExchangeFrames.{AreExchange}
-use Rattle.p2p_directory.specs.Laws.ExchangeFrames.ExchangeFrames.{NoFrame, NoMemory, Asked, Replied}
+use Rattle.p2p_directory.specs.Laws.ExchangeFrames.ExchangeFrames.{NoFrame, NoMemory, Asked}
+use Rattle.p2p_directory.specs.Laws.ExchangeFrames.ExchangeFrames.{Replied}
 use Rattle.p2p_directory.proofs.Nodes.Carried.{carried_once}
 use Rattle.p2p_directory.proofs.Nodes.Frames.{frame_may_want_memory}
 
@@ -269,7 +271,8 @@ module _ {C S : Type 0} (wire : Wire C S) (size : ℕ) (node : ℕ → Made C S)
     subst (λ cs. IsExchangeAnswer (exchange_may_want_memory (at i cs) place)
         (exchanged_at (at i cs) (at j (calls e j)) place (as_nanos s) (as_nanos t)) r) (same i)
         (subst (λ cs. IsExchangeAnswer (exchange_may_want_memory (at i (calls d i)) place)
-        (exchanged_at (at i (calls d i)) (at j cs) place (as_nanos s) (as_nanos t)) r) (same j) h.1),
+        (exchanged_at (at i (calls d i)) (at j cs) place (as_nanos s) (as_nanos t)) r) (same j)
+        h.1),
   )
   answer_alike c r d e same h = absurd h.1
 
@@ -504,7 +507,7 @@ module _ {C S : Type 0} (wire : Wire C S) (size : ℕ) (node : ℕ → Made C S)
       some_bits None f e = absurd (cc)
       some_bits (Some x) f e = refl
 
-      answered_by : (x : ExchangeFrames C S) (r : Exchanged C S) →
+      pub answered_by : (x : ExchangeFrames C S) (r : Exchanged C S) →
           AreExchange wire size node asker replier x r → IsSo r →
           Answered d (frame_steps asker replier place s t x) →
           Answered d (exchange_steps asker replier place s t x r)
@@ -603,7 +606,8 @@ module _ {C S : Type 0} (wire : Wire C S) (size : ℕ) (node : ℕ → Made C S)
       ended : (steps : Steps C S) → By [] (before ++ (steps ++ after)) ≡ By (By d steps) after
       ended steps = after_both before (steps ++ after) [] ∙ after_both steps after d
 
-      pub same_calls : Alike (By [] (before ++ (exchanging ++ after))) (By [] (before ++ (framed ++ after)))
+      pub same_calls : Alike (By [] (before ++ (exchanging ++ after)))
+          (By [] (before ++ (framed ++ after)))
       same_calls i = ap (λ q. calls q i) (ended exchanging)
           ∙ alike_after after (By d exchanging) (By d framed) (same_by x r d are.outcome) i
           ∙ ap (λ q. calls q i) (sym (ended framed))

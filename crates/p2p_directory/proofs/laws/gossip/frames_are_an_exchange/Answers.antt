@@ -7,7 +7,8 @@ use Rattle.p2p_directory.proofs.Nodes.ReadBack.{wire_in}
 use Rattle.p2p_directory.proofs.laws.gossip.frames_are_an_exchange.Goals as goal
 
 pub returns-clause-run : goal.returns-clause-run
-returns-clause-run g c = λ verifies size node asker replier place s t x r are before after vs can run.
+returns-clause-run g c = λ verifies size node asker replier place s t x r are
+    before after vs can run.
     let wire = wire_in verifies g.C.FixedBytes g.C.Signature.FixedBytes in
     ExchangeFrames.is_run wire size node asker replier place s t x r are before after vs
     (λ made. is_carried g.met.C.FixedBytes.fixed g.met.C.Signature.FixedBytes.fixed verifies
