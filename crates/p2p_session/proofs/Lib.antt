@@ -9,3 +9,12 @@ pub mod Setups
 pub mod Keys
 pub mod Requests
 pub mod Spellings
+pub mod Steps
+pub mod Served
+pub mod Parts
+pub mod Told
+pub mod Alike
+pub mod Wants
+pub mod Looked
+mod ShownSteps
+mod ShownAnswers

@@ -8,6 +8,8 @@ pub mod Given
 pub mod Frames
 pub mod Sessions
 pub mod Requests
+pub mod Steps
+pub mod Alike
 pub mod Addresses
 -- The law of whole sessions.
 pub mod Laws
