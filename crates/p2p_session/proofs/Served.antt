@@ -18,7 +18,7 @@ use Rattle.p2p_session.specs.Requests.Request.{Numbered, Written, SetOf, Infos, 
 use Rattle.p2p_session.specs.Requests.Request.{Looking, Init}
 use Rattle.p2p_session.specs.Schemes.{Scheme}
 use Rattle.p2p_session.specs.Sessions.{Makes, OfNode, IsMade}
-use Rattle.p2p_session.specs.Steps.{Step, Lead, IsStepOf, IsStepFor, TellsStep, taken}
+use Rattle.p2p_session.specs.Steps.{Step, Lead, IsStepOf, IsStepFor, TellsStep, taken_with}
 use Rattle.p2p_session.specs.Steps.Step.{Called, Heard, Looked}
 use Rattle.p2p_session.proofs.Steps.{one_step, are_run}
 
@@ -170,7 +170,7 @@ module _ {C S : Type 0} (k : Scheme C S) where
         λ given before at.
             let m = made_of k.key.cmp given in (
               (v, at, goes.3),
-              rest.3 given (taken k m before goes.0)
+              rest.3 given (taken_with k m before goes.0)
                   (one_step k given before goes.0 v u at goes.2).1,
             ),
       )

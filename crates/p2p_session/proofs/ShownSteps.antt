@@ -52,7 +52,7 @@ use Rattle.p2p_directory.proofs.Nodes.Worlds.{received_in}
 use Rattle.p2p_directory.proofs.Reservations.Effects.{idle}
 use Rattle.p2p_session.specs.Schemes.{Scheme, wire}
 use Rattle.p2p_session.specs.Requests.Request.{Numbered}
-use Rattle.p2p_session.specs.Steps.{Step, Leads, Lead, AreRun, IsStepFor, calls_in, replies_in}
+use Rattle.p2p_session.specs.Steps.{Step, Leads, Lead, AreRun, IsStepFor, calls_made, replies_made}
 use Rattle.p2p_session.specs.Steps.Step.{Called, Heard, Looked}
 use Rattle.p2p_session.proofs.Steps.{are_run}
 
@@ -269,13 +269,13 @@ lead : Lead k steps v v
 lead = (v, leads_on_by_call, (v, leads_on_by_frame, (v, refl, (v, leads_on_by_refusal, refl))))
 
 -- the calls in them are a question and an update, with their replies
-calls_are : calls_in k m steps ≡ Ask LatestIndex ∷ Update (greeter ∷ []) ∷ []
+calls_are : calls_made k m steps ≡ Ask LatestIndex ∷ Update (greeter ∷ []) ∷ []
 unfolding payload_at body_at data_at message_at length_at groups groups_at texts.info_at ingress_at
     ip_at
     socket_at bits_read_at bit_vec_read_at bits_in packed spellings elems items_at list_at
 calls_are = refl
 
-replies_are : replies_in k m steps ≡ latest ∷ reply.UpdatePeers ∷ []
+replies_are : replies_made k m steps ≡ latest ∷ reply.UpdatePeers ∷ []
 unfolding payload_at body_at data_at message_at length_at groups groups_at texts.info_at ingress_at
     ip_at
     socket_at bits_read_at bit_vec_read_at bits_in packed spellings elems items_at list_at

@@ -29,9 +29,9 @@ use Rattle.p2p_directory.specs.Run.{AreAnswers, accepted, next, world_after}
 use Rattle.p2p_directory.proofs.Definitions.Keys.{exact_from}
 use Rattle.p2p_directory.proofs.LawsOfRuns.Laws.{laws_of_run}
 use Rattle.p2p_session.specs.Schemes.{Scheme, wire}
-use Rattle.p2p_session.specs.Steps as point
-use Rattle.p2p_session.specs.Steps.{Step, Leads, Lead, IsAnsweredAt, AreAnsweredAt, taken_by}
-use Rattle.p2p_session.specs.Steps.{call_in, AreRun}
+use Rattle.p2p_session.specs.Steps.{Step, Leads, Lead, IsStepAnsweredAt, AreStepsAnsweredAt}
+use Rattle.p2p_session.specs.Steps.{taken_by}
+use Rattle.p2p_session.specs.Steps.{call_made, taken_with, AreRun}
 use Rattle.p2p_session.specs.Steps.Step.{Called, Heard, Looked}
 
 -- a frame that is accepted by these verdicts is an update with its infos
@@ -102,9 +102,9 @@ module _ {C S : Type 0} (k : Scheme C S) where
   pub one_step : (given : Setup C S) (before : List (Call C S)) (step : Step C S)
       (v v2 : NodeView C S) →
       NodeStandsAt (made_of k.key.cmp given) before v → Leads k step v v2 →
-      IsAnsweredAt k (made_of k.key.cmp given) before step
+      IsStepAnsweredAt k (made_of k.key.cmp given) before step
       × NodeStandsAt (made_of k.key.cmp given)
-      (point.taken k (made_of k.key.cmp given) before step) v2
+      (taken_with k (made_of k.key.cmp given) before step) v2
   one_step given before (Called call r) v v2 at h = let it = h.0 given before at in
       (it.answer, it.left)
   one_step given before (Heard frame now verdicts r) v v2 at h =
@@ -123,14 +123,14 @@ module _ {C S : Type 0} (k : Scheme C S) where
   all_steps : (given : Setup C S) (before : List (Call C S)) (steps : List (Step C S))
       (v v2 : NodeView C S) →
       NodeStandsAt (made_of k.key.cmp given) before v → Lead k steps v v2 →
-      AreAnsweredAt k (made_of k.key.cmp given) before steps
+      AreStepsAnsweredAt k (made_of k.key.cmp given) before steps
       × NodeStandsAt (made_of k.key.cmp given) (taken_by k (made_of k.key.cmp given) before steps)
       v2
   all_steps given before [] v v2 at h =
       (tt, subst (NodeStandsAt (made_of k.key.cmp given) before) (sym h) at)
   all_steps given before (step ∷ steps) v v2 at h =
       let one = one_step given before step v h.0 at h.1 in
-      let more = all_steps given (point.taken k (made_of k.key.cmp given) before step) steps h.0 v2
+      let more = all_steps given (taken_with k (made_of k.key.cmp given) before step) steps h.0 v2
       one.1 h.2 in
       ((one.0, more.0), more.1)
 
@@ -147,7 +147,7 @@ module _ {C S : Type 0} (k : Scheme C S) where
         (made : List (Call C S × Reply C S))
         (later : List (Call C S)) → IsStepAnswer m before call r →
         IsRunFrom (next m.directory before call r) made later →
-        IsRunFrom before (cons_option (call_in k m (Called call r)) made) later
+        IsRunFrom before (cons_option (call_made k m (Called call r)) made) later
     called before call reply.OutOfMemory made later is rest = rest
     called before call r made later (inl is) rest = ((is, rest.0), rest.1)
     called before call r made later (inr memory) rest = absurd (let e = memory.1 in cc)
@@ -162,17 +162,17 @@ module _ {C S : Type 0} (k : Scheme C S) where
     heard before infos false made later rest = rest
 
     are_run_from : (before : List (Call C S)) (steps : List (Step C S)) →
-        AreAnsweredAt k m before steps →
-        IsRunFrom before (filter_map (call_in k m) steps) (taken_by k m before steps)
+        AreStepsAnsweredAt k m before steps →
+        IsRunFrom before (filter_map (call_made k m) steps) (taken_by k m before steps)
     are_run_from before [] h = (tt, refl)
     are_run_from before (Called call r ∷ steps) h =
-        called before call r (filter_map (call_in k m) steps)
+        called before call r (filter_map (call_made k m) steps)
         (taken_by k m (next m.directory before call r) steps) h.0
         (are_run_from (next m.directory before call r) steps h.1)
     are_run_from before (Heard frame now verdicts r ∷ steps) h =
-        let before2 = point.taken k m before (Heard frame now verdicts r) in
+        let before2 = taken_with k m before (Heard frame now verdicts r) in
         heard before (infos_of_frame (wire k) m.limits frame) (applies r)
-        (filter_map (call_in k m) steps)
+        (filter_map (call_made k m) steps)
         (taken_by k m before2 steps) (are_run_from before2 steps h.1)
     are_run_from before (Looked ∷ steps) h = are_run_from before steps h.1
 
@@ -193,7 +193,7 @@ module _ {C S : Type 0} (k : Scheme C S) where
         run = run.0;
         same = run.1;
         laws = laws_of_run m.directory (exact_from m.directory k.key.cmp refl exact)
-            (map (λ x. x.0) (filter_map (call_in k m) steps))
-            (map (λ x. x.1) (filter_map (call_in k m) steps)) run.0
+            (map (λ x. x.0) (filter_map (call_made k m) steps))
+            (map (λ x. x.1) (filter_map (call_made k m) steps)) run.0
             total given.cfg.max_sets.ok;
       }

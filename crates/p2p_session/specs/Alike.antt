@@ -38,8 +38,8 @@ AreAlike (reply.Dialable d) (reply.Dialable d2) = (d.peers.items ≡ d2.peers.it
     × (option_map as_nanos d.next_query_at ≡ option_map as_nanos d2.next_query_at)
 AreAlike r r2 = r ≡ r2
 
--- the room is one of a host, what was answered with this number is whole, and it isn't want of
--- memory
+-- the room is one that a host can have, the answer of this number was written if it is bytes, and
+-- it isn't want of memory
 pub record IsWhole (out : List ℕ) (n : ℕ) : Type 0 where
   pub room : length out < 2 ^ 63
   pub fits : Fits out n
@@ -51,7 +51,7 @@ pub record IsWhole (out : List ℕ) (n : ℕ) : Type 0 where
 abbrev pub IsDuration : Duration → Type 0
 IsDuration t = as_nanos t / 1_000_000_000 < 2 ^ 64
 
--- the numbers in why bytes are no payload, and in why infos are refused, fit 64 bits
+-- the numbers in why bytes are no payload fit 64 bits
 abbrev pub IsFault : CodecError → Type 0
 IsFault (fault.ExtraData n) = n < 2 ^ 64
 IsFault (fault.InvalidLength n) = n < 2 ^ 64
@@ -59,6 +59,7 @@ IsFault (fault.InvalidVarint n) = n < 2 ^ 64
 IsFault (fault.InvalidEnum n) = n < 2 ^ 64
 IsFault _ = Unit {0}
 
+-- .. in why infos are refused
 abbrev pub IsError : Error → Type 0
 IsError (error.TooManyPeers n) = n < 2 ^ 64
 IsError _ = Unit {0}
@@ -74,6 +75,7 @@ module _ {C S : Type 0} (k : Scheme C S) where
   abbrev pub AreKeyValues : List C → Type 0
   AreKeyValues keys = AllByRecursion k.key.IsValue keys × (length keys < 2 ^ 63)
 
+  -- .. of both roles
   abbrev pub ArePeers : TrackedPeers C S → Type 0
   ArePeers peers = AreKeyValues peers.primary × AreKeyValues peers.secondary
 

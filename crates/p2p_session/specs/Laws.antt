@@ -9,7 +9,7 @@ use Rattle.p2p_session.specs.Given.{IsSetup}
 use Rattle.p2p_session.specs.Requests.{Request, ServesRequest}
 use Rattle.p2p_session.specs.Requests.Request.{Init, Looking}
 use Rattle.p2p_session.specs.Sessions.{Shows}
-use Rattle.p2p_session.specs.Steps.{Step, Leads, AreRun, IsStepFor, TellsStep, taken}
+use Rattle.p2p_session.specs.Steps.{Step, Leads, AreRun, IsStepFor, TellsStep, taken_with}
 
 -- a call of a session: what is asked for, the room for its answer before and after it, and the
 -- number that is returned
@@ -74,7 +74,7 @@ module _ {C S : Type 0} (k : Scheme C S) where
   abbrev pub AreShownAt : Made C S → List (Call C S) → List (Served C S) → List (Step C S) → Type 0
   AreShownAt m before (call ∷ calls) (step ∷ steps) = ((v : NodeView C S)
       × NodeStandsAt m before v × IsShown call.asked call.out call.out2 call.n v)
-      × AreShownAt m (taken k m before step) calls steps
+      × AreShownAt m (taken_with k m before step) calls steps
   AreShownAt m before _ _ = Unit {0}
 
   -- one of the calls made a node, those after it are the steps of a run of it, and left it as v

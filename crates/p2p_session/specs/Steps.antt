@@ -48,58 +48,59 @@ module _ {C S : Type 0} (k : Scheme C S) where
 
   -- a step is answered as at its point: a call as in a run, or want of memory for the room of what
   -- it may be granted, and a frame by its verdicts
-  abbrev pub IsAnsweredAt : Made C S → List (Call C S) → Step C S → Type 0
-  IsAnsweredAt m before (Called call r) = IsStepAnswer m before call r
-  IsAnsweredAt m before (Heard frame now verdicts r) =
+  abbrev pub IsStepAnsweredAt : Made C S → List (Call C S) → Step C S → Type 0
+  IsStepAnsweredAt m before (Called call r) = IsStepAnswer m before call r
+  IsStepAnsweredAt m before (Heard frame now verdicts r) =
       let node = standing_in m (wire k) (world_after m.directory before) in
       IsFrameAnswer
       (frame_may_want_memory_by (wire k) (given_verdicts verdicts node.judge) node frame now)
       (received_by (wire k) (given_verdicts verdicts node.judge) node frame now) r
-  IsAnsweredAt m before Looked = Unit {0}
+  IsStepAnsweredAt m before Looked = Unit {0}
 
   -- the accepted calls after one more step: a frame that is accepted is an update with its infos
-  abbrev pub taken : Made C S → List (Call C S) → Step C S → List (Call C S)
-  taken m before (Called call r) = next m.directory before call r
-  taken m before (Heard frame now verdicts r) =
+  abbrev pub taken_with : Made C S → List (Call C S) → Step C S → List (Call C S)
+  taken_with m before (Called call r) = next m.directory before call r
+  taken_with m before (Heard frame now verdicts r) =
       if applies r then Update (infos_of_frame (wire k) m.limits frame) ∷ before else before
-  taken m before Looked = before
+  taken_with m before Looked = before
 
   -- .. after all of these
   abbrev pub taken_by : Made C S → List (Call C S) → List (Step C S) → List (Call C S)
   taken_by m before [] = before
-  taken_by m before (step ∷ steps) = taken_by m (taken m before step) steps
+  taken_by m before (step ∷ steps) = taken_by m (taken_with m before step) steps
 
   -- .. each of which is answered as at its point
-  abbrev pub AreAnsweredAt : Made C S → List (Call C S) → List (Step C S) → Type 0
-  AreAnsweredAt m before [] = Unit {0}
-  AreAnsweredAt m before (step ∷ steps) =
-      IsAnsweredAt m before step × AreAnsweredAt m (taken m before step) steps
+  abbrev pub AreStepsAnsweredAt : Made C S → List (Call C S) → List (Step C S) → Type 0
+  AreStepsAnsweredAt m before [] = Unit {0}
+  AreStepsAnsweredAt m before (step ∷ steps) =
+      IsStepAnsweredAt m before step × AreStepsAnsweredAt m (taken_with m before step) steps
 
   -- the call of a run that a step is, with its reply: a call that was refused for memory is none
-  abbrev pub call_in : Made C S → Step C S → Option (Call C S × Reply C S)
-  call_in m (Called call reply.OutOfMemory) = None
-  call_in m (Called call r) = Some (call, r)
-  call_in m (Heard frame now verdicts r) = if applies r
+  abbrev pub call_made : Made C S → Step C S → Option (Call C S × Reply C S)
+  call_made m (Called call reply.OutOfMemory) = None
+  call_made m (Called call r) = Some (call, r)
+  call_made m (Heard frame now verdicts r) = if applies r
       then Some (Update (infos_of_frame (wire k) m.limits frame), reply.UpdatePeers) else None
-  call_in m Looked = None
+  call_made m Looked = None
 
   -- .. those of all steps, and their replies
-  abbrev pub calls_in : Made C S → List (Step C S) → List (Call C S)
-  calls_in m steps = map (λ x. x.0) (filter_map (call_in m) steps)
+  abbrev pub calls_made : Made C S → List (Step C S) → List (Call C S)
+  calls_made m steps = map (λ x. x.0) (filter_map (call_made m) steps)
 
-  abbrev pub replies_in : Made C S → List (Step C S) → List (Reply C S)
-  replies_in m steps = map (λ x. x.1) (filter_map (call_in m) steps)
+  abbrev pub replies_made : Made C S → List (Step C S) → List (Reply C S)
+  replies_made m steps = map (λ x. x.1) (filter_map (call_made m) steps)
 
   -- these steps, from the start of a node that was made from m, are a run, and left it as v
   pub record AreRun (m : Made C S) (steps : List (Step C S)) (v : NodeView C S) : Type 0 where
     -- the node stands at the calls taken, and each answer is that of the step at its point
     pub stands : NodeStandsAt m (taken_by m [] steps) v
-    pub answered : AreAnsweredAt m [] steps
+    pub answered : AreStepsAnsweredAt m [] steps
     -- the calls in the steps are those of a run with their replies, and of the same accepted calls
-    pub run : AreAnswers m.directory [] (calls_in m steps) (replies_in m steps)
-    pub same : accepted m.directory [] (calls_in m steps) (replies_in m steps) ≡ taken_by m [] steps
+    pub run : AreAnswers m.directory [] (calls_made m steps) (replies_made m steps)
+    pub same : accepted m.directory [] (calls_made m steps) (replies_made m steps)
+        ≡ taken_by m [] steps
     -- so the laws of a run hold of them
-    pub laws : LawsOfRun m.directory (calls_in m steps) (replies_in m steps)
+    pub laws : LawsOfRun m.directory (calls_made m steps) (replies_made m steps)
 
   -- ---- which step is asked for
 
