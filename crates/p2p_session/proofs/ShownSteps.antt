@@ -34,7 +34,7 @@ use Rattle.p2p_tracker.specs.Answers.{is_present_in}
 use Rattle.p2p_tracker.specs.Directory.{Updates, infos_of, updated_record}
 use Rattle.p2p_tracker.specs.Lists.{first_greatest}
 use Rattle.p2p_tracker.specs.Record.{address_after_offer}
-use Rattle.p2p_tracker.specs.Seen.{DirectoryView, RecordView, record_of}
+use Rattle.p2p_tracker.specs.Seen.{RecordView, record_of}
 use Rattle.p2p_directory.specs.declared.node.received.Received.TheVariants as received
 use Rattle.p2p_directory.specs.declared.node.setup.Setup.{Setup}
 use Rattle.p2p_directory.specs.declared.run.commands.Reply.{Reply}
