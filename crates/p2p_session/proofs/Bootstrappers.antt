@@ -1,8 +1,8 @@
 -- Bootstrappers, as they are read one after the other.
-use Rattle.std.proofs.Common.{◌≡◌, ◌≢◌, ℕ, List, [], ◌∷◌, ◌++◌, length, drop, sym, ap, ◌∙◌}
+use Rattle.std.proofs.Common.{◌≡◌, ◌≢◌, ℕ, List, [], ◌∷◌, ◌++◌, length, drop, sym, ap, ◌∙◌, ◌<◌, ◌+◌, refl, arith}
 use Rattle.std.proofs.Common.{append_assoc, ◌⊎◌, inl, inr, Bool, true, false, ◌==◌}
 use Rattle.std.proofs.Math.Seq.{drop-append_seam}
-use Rattle.std.proofs.lemmas.List.{append-nil}
+use Rattle.std.proofs.lemmas.List.{append-nil, length-append}
 use Rattle.std.proofs.lemmas.Grind.{flat_map-append}
 use Rattle.std.specs.List.{AllByRecursion}
 use Rattle.p2p_discovery.specs.declared.codec.error.CodecError.{CodecError}
@@ -17,6 +17,12 @@ use Rattle.p2p_session.specs.Schemes.{Scheme}
 
 pub some_left : {b : Bool} {l : List ℕ} → b ≡ (length l == 0) → b ≡ false → l ≡ [] → ⊥
 some_left e f z = let t : false ≡ true = sym f ∙ e ∙ ap (λ (l : List ℕ). length l == 0) z in cc
+
+-- .. and of the bytes that they end, some are
+pub some_bytes : (left front : List ℕ) {bytes : List ℕ} → (left ≡ [] → ⊥) → front ++ left ≡ bytes → 0 < length bytes
+some_bytes [] front some is = absurd (some refl)
+some_bytes (b ∷ left) front some is =
+    omega (arith, ap (λ (l : List ℕ). length l) is, length-append front (b ∷ left))
 
 -- one more, behind those before
 pub all_with : {A : Type 0} (P : A → Type 0) (xs : List A) (x : A) → AllByRecursion P xs → P x → AllByRecursion P (xs ++ x ∷ [])
@@ -66,15 +72,15 @@ module _ {C S : Type 0} (k : Scheme C S)
       ∙ ap (λ l. bootstrappers_spelling k bs ++ l) (sym e) ∙ before
 
   -- .. where it is no want of memory
-  pub unread : {why : Refusal} {fault : CodecError} {left : List ℕ} → (why ≡ Memory) ⊎ ((why ≡ BadInfo) × (fault ≢ codec.Memory)) →
+  pub unread : {why : Refusal} {fault : CodecError} {left : List ℕ} → ((why ≡ Memory) × (fault ≡ codec.Memory)) ⊎ ((why ≡ BadInfo) × (fault ≢ codec.Memory)) →
       ((b : C × Ingress) (rest : List ℕ) → IsBootstrapper k b → left ≡ bootstrapper_spelling k b ++ rest → fault ≡ codec.Memory) →
       (why ≡ Memory) ⊎ ((why ≡ BadInfo) × ((b : C × Ingress) (rest : List ℕ) → IsBootstrapper k b → ¬ (left ≡ bootstrapper_spelling k b ++ rest)))
-  unread (inl memory) only = inl memory
+  unread (inl memory) only = inl memory.0
   unread (inr other) only = inr (other.0, λ b rest is e. other.1 (only b rest is e))
 
   -- why none is read, where one is not
-  pub none_read : {why : Refusal} (left bytes : List ℕ) → (left ≡ [] → ⊥) → (SpellBootstrappers k bytes → SpellBootstrappers k left) →
+  pub none_read : {why : Refusal} (left bytes : List ℕ) → (left ≡ [] → ⊥) → 0 < length bytes → (SpellBootstrappers k bytes → SpellBootstrappers k left) →
       (why ≡ Memory) ⊎ ((why ≡ BadInfo) × ((b : C × Ingress) (rest : List ℕ) → IsBootstrapper k b → ¬ (left ≡ bootstrapper_spelling k b ++ rest))) →
-      (why ≡ Memory) ⊎ ((why ≡ BadInfo) × (¬ SpellBootstrappers k bytes))
-  none_read left bytes some back (inl memory) = inl memory
-  none_read left bytes some back (inr none) = inr (none.0, λ spelled. none_begins left some none.1 (back spelled))
+      ((why ≡ Memory) × (0 < length bytes)) ⊎ ((why ≡ BadInfo) × (¬ SpellBootstrappers k bytes))
+  none_read left bytes some any back (inl memory) = inl (memory, any)
+  none_read left bytes some any back (inr none) = inr (none.0, λ spelled. none_begins left some none.1 (back spelled))

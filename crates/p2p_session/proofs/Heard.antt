@@ -15,6 +15,7 @@ use Rattle.p2p_discovery.specs.declared.discovery.PayloadConfig.{PayloadConfig}
 use Rattle.p2p_discovery.specs.Laws.Payload.{lawful_payload}
 use Rattle.p2p_discovery.specs.Reading.{IsBytes, ends_whole, whole}
 use Rattle.p2p_directory.specs.Nodes.{given_verdicts, AnswersFrame, IsReceived}
+use Rattle.p2p_directory.specs.Laws.Verdicts.{IsJudged}
 use Rattle.p2p_directory.specs.Received as frames
 use Rattle.p2p_directory.specs.Received.{Standing}
 use Rattle.p2p_directory.specs.declared.node.received.Received.{Received}
@@ -28,9 +29,9 @@ use Rattle.p2p_session.specs.Schemes.{Scheme, wire}
 module _ {C S : Type 0} (k : Scheme C S) where
   pub hears_same : (verdicts : List Bool) (frame bytes : List ℕ) (t : ℕ) (v v2 : NodeView C S) (r : Received C S) → bytes ≡ frame →
       AnswersFrame k.key.cmp (wire k) (given_verdicts verdicts) bytes t r v v2 → IsReceived k.key.cmp (wire k) (given_verdicts verdicts) bytes t r v v2 →
-      Hears k verdicts frame t v v2 r
-  hears_same verdicts frame bytes t v v2 r same seen received =
-      subst (λ x. Hears k verdicts x t v v2 r) same (record { seen = seen; received = received })
+      IsJudged k.key.cmp (wire k) k.key.IsValue k.signature.IsValue verdicts bytes t r v v2 → Hears k verdicts frame t v v2 r
+  hears_same verdicts frame bytes t v v2 r same seen received judged =
+      subst (λ x. Hears k verdicts x t v v2 r) same (record { seen = seen; received = received; judged = judged })
 
 module _ {C S : Type 0} (k : Scheme C S)
     (key_laws : IsFixed k.key.SIZE k.key.spelled k.key.value k.key.IsValue)

@@ -1,5 +1,5 @@
 -- Setups, as they are read.
-use Rattle.std.proofs.Common.{◌≡◌, inl, ℕ, List, true, Ok, Option, None, refl, arith}
+use Rattle.std.proofs.Common.{◌≡◌, inl, ℕ, List, true, Ok, Option, None, refl, arith, ◌<◌, ◌+◌, length}
 use Rattle.std.specs.Duration.{as_nanos}
 use Rattle.p2p_directory.specs.declared.node.setup.Setup.{Setup}
 use Rattle.p2p_session.specs.declared.refusal.Refusal.{Refusal}
@@ -35,7 +35,7 @@ module _ {C S : Type 0} (k : Scheme C S) where
 
   -- .. and then memory may be wanted
   pub refused_memory : (n : Numbers) (namespace bootstrappers myself : List ℕ) (s : Setup C S) (o : Option (NodeView C S)) →
-      o ≡ None → are_settings n ≡ true → IsSetup k n namespace bootstrappers myself s →
+      o ≡ None → are_settings n ≡ true → IsSetup k n namespace bootstrappers myself s → 0 < length myself →
       IsInitRefusal k n bootstrappers myself o refusal.Memory
-  refused_memory n namespace bootstrappers myself s o none fine is =
-      rw (none, numbers_fine n namespace bootstrappers myself s fine is) (inl refl)
+  refused_memory n namespace bootstrappers myself s o none fine is some =
+      rw (none, numbers_fine n namespace bootstrappers myself s fine is) (inl (refl, omega (arith, some)))

@@ -10,14 +10,15 @@ use Rattle.p2p_discovery.specs.declared.discovery.Info.{Info}
 use Rattle.p2p_discovery.specs.declared.discovery.Payload.{Payload}
 use Rattle.p2p_discovery.specs.declared.discovery.Payload.TheVariants as said
 use Rattle.p2p_discovery.specs.Ingress.{ingress_spelling}
-use Rattle.p2p_discovery.specs.Judgement.{Judge, judge_of, judged_before, to_verify}
+use Rattle.p2p_discovery.specs.Judgement.{Judge, judge_of}
 use Rattle.p2p_discovery.specs.Payload.{infos_of_payload}
 use Rattle.p2p_discovery.specs.Reading.{whole}
 use Rattle.p2p_tracker.specs.declared.directory.Metadata.{Metadata}
 use Rattle.p2p_tracker.specs.declared.directory.Metadata.TheVariants.{Dialer, Listener}
 use Rattle.p2p_directory.specs.Held.{held_of}
 use Rattle.p2p_directory.specs.Nodes.{NodeView, standing_of, given_verdicts, AnswersFrame, IsReceived}
-use Rattle.p2p_directory.specs.Received.{are_miscounted, IsWantOfMemory}
+use Rattle.p2p_directory.specs.Received.{are_miscounted, to_ask, IsWantOfMemory}
+use Rattle.p2p_directory.specs.Laws.Verdicts.{IsJudged}
 use Rattle.p2p_directory.specs.declared.node.received.Received.{Received}
 use Rattle.p2p_directory.specs.declared.node.received.Received.TheVariants as received
 use Rattle.p2p_session.specs.declared.refusal.Refusal.{Refusal}
@@ -57,12 +58,6 @@ error_bytes error.SynchronyBound = 3 ∷ []
 abbrev pub verdicts_in : List ℕ → List Bool
 verdicts_in bytes = map (λ b. not (b == 0)) bytes
 
--- the infos of a payload whose signatures decide
-abbrev pub to_ask : {C S : Type 0} → Judge C S → ℕ → Payload C S → List (Info C S)
-to_ask judge now (said.Greeting i) = judged_before judge now (i ∷ [])
-to_ask judge now (said.Peers is) = to_verify judge now is
-to_ask judge now _ = []
-
 module _ {C S : Type 0} (k : Scheme C S) where
   -- ---- reservations
 
@@ -90,6 +85,9 @@ module _ {C S : Type 0} (k : Scheme C S) where
       (r : Received C S) : Type 0 where
     pub seen : AnswersFrame k.key.cmp (wire k) (given_verdicts verdicts) frame now r v v2
     pub received : IsReceived k.key.cmp (wire k) (given_verdicts verdicts) frame now r v v2
+    -- whatever predicate they are told by, it took it by the signatures that are right by that
+    pub judged : IsJudged k.key.cmp (wire k) k.key.IsValue k.signature.IsValue verdicts frame now r
+        v v2
 
   -- .. at a moment that was read
   abbrev pub HearsAt : List Bool → List ℕ → Result ℕ Refusal → NodeView C S → NodeView C S →
@@ -103,11 +101,13 @@ module _ {C S : Type 0} (k : Scheme C S) where
   applied_size = 1 + max k.key.SIZE 8
 
   -- why a frame isn't taken: what is wrong with the moment; else that the room is shorter than that
-  -- answer; else that memory was refused, or that verdicts and infos differ in number
+  -- answer; else that memory to copy its bytes or the verdicts was refused, where there are any, or
+  -- that verdicts and infos differ in number
   abbrev pub MayRefuse : NodeView C S → List Bool → List ℕ → Result ℕ Refusal → ℕ → Refusal → Type 0
   MayRefuse v verdicts frame (Err wrong) room why = why ≡ wrong
   MayRefuse v verdicts frame (Ok t) room refusal.NoRoom = room < applied_size
-  MayRefuse v verdicts frame (Ok t) room refusal.Memory = applied_size ≤ room
+  MayRefuse v verdicts frame (Ok t) room refusal.Memory = (applied_size ≤ room)
+      × (0 < length frame + length verdicts)
   MayRefuse v verdicts frame (Ok t) room refusal.BadVerdicts = (applied_size ≤ room)
       × (are_miscounted (wire k) (standing_of k.key.cmp (wire k) v) frame verdicts ≡ true)
   MayRefuse v verdicts frame (Ok t) room _ = ⊥
@@ -138,8 +138,9 @@ module _ {C S : Type 0} (k : Scheme C S) where
       number (length (infos_of_payload x.0)) ++ flat_map (asked_bytes k) (to_ask judge now x.0)
   check_bytes judge now (Err fault) = number 0
 
+  -- .. or memory was refused, where the frame has any bytes
   abbrev pub ChecksAt : NodeView C S → List ℕ → Result ℕ Refusal → List ℕ → List ℕ → ℕ → Type 0
-  ChecksAt v frame (Ok now) out out2 n = Refuses refusal.Memory out out2 n
+  ChecksAt v frame (Ok now) out out2 n = ((0 < length frame) × Refuses refusal.Memory out out2 n)
       ⊎ Tells (Bytes (check_bytes (judge_of k.key.cmp (wire k).verifies v.verifier) now
       (whole ((wire k).reading v.limits) frame).outcome)) out out2 n
   ChecksAt v frame (Err why) out out2 n = Refuses why out out2 n

@@ -68,9 +68,10 @@ spelled why (Err fault) = Err why
 abbrev pub bits_spelled : List ℕ → Result BitVec Refusal
 bits_spelled bytes = spelled refusal.BadBits (whole (bit_vec_read_at (2 ^ 32 - 1)) bytes).outcome
 
--- what was read is this, or memory for it was refused
-abbrev pub IsRead : {A : Type 0} → Result A Refusal → Result A Refusal → Type 0
-IsRead read it = (read ≡ Err refusal.Memory) ⊎ (read ≡ it)
+-- what was read from these bytes is this, or memory for it was refused: none is asked for where
+-- there are no bytes
+abbrev pub IsRead : {A : Type 0} → List ℕ → Result A Refusal → Result A Refusal → Type 0
+IsRead bytes read it = ((read ≡ Err refusal.Memory) × (0 < length bytes)) ⊎ (read ≡ it)
 
 -- the track of the set of these peers
 abbrev pub track_of : {C S : Type 0} → ℕ → Result (TrackedPeers C S) Refusal → Asked C S
@@ -199,11 +200,12 @@ module _ {C S : Type 0} (k : Scheme C S) where
     pub myself_is : info_spelling k.key.spelled k.signature.spelled s.myself ≡ myself
     pub is_info : IsInfoOfKeys s.myself
 
-  -- why numbers and bytes are no setup: the first number that is refused; else want of memory, or
-  -- bytes that spell no bootstrappers, or no info
+  -- why numbers and bytes are no setup: the first number that is refused; else want of memory,
+  -- where there are bytes to read, or bytes that spell no bootstrappers, or no info
   abbrev pub IsSetupRefusal : Result ℕ Refusal → List ℕ → List ℕ → Refusal → Type 0
   IsSetupRefusal (Err fault) bootstrappers myself why = why ≡ fault
-  IsSetupRefusal (Ok bound) bootstrappers myself why = (why ≡ refusal.Memory)
+  IsSetupRefusal (Ok bound) bootstrappers myself why =
+      ((why ≡ refusal.Memory) × (0 < length bootstrappers + length myself))
       ⊎ ((why ≡ refusal.BadInfo) × (¬ (SpellBootstrappers bootstrappers × SpellInfo myself)))
 
   -- a setup that was read, or why there is none

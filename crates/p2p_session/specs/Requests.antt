@@ -187,9 +187,9 @@ module _ {C S : Type 0} (k : Scheme C S) where
       OfNode (λ v v2. Tracks k index primary secondary out out2 v v2 n) out out2
       before.node after.node n
   ServesRequest (Some (Infos infos)) out out2 before after n =
-      (out2 ≡ out) × ServesRead k (updated_by k infos) [] [] before.node after.node n
+      (out2 ≡ out) × ServesRead k infos (updated_by k infos) [] [] before.node after.node n
   ServesRequest (Some (Bits bits seconds nanos)) out out2 before after n =
-      ServesRead k (infos_for k bits seconds nanos) out out2 before.node after.node n
+      ServesRead k bits (infos_for k bits seconds nanos) out out2 before.node after.node n
   ServesRequest (Some (Frame frame seconds nanos verdicts)) out out2 before after n =
       Receives k frame seconds nanos verdicts out out2 before.node after.node n
   ServesRequest (Some (Looking look)) out out2 before after n =

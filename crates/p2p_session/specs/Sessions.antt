@@ -154,11 +154,11 @@ module _ {C S : Type 0} (k : Scheme C S) where
       ⊎ ((room_for v ≤ length out) × Fits out n × ((given : Asked C S)
       × IsTrackRead k index primary secondary given × Makes given out out2 v v2 n))
 
-  -- this call is made, unless memory to read its arguments was refused
-  abbrev pub ServesRead : Asked C S → List ℕ → List ℕ → Option (NodeView C S) →
+  -- this call is made, unless memory to read its argument, these bytes, was refused
+  abbrev pub ServesRead : List ℕ → Asked C S → List ℕ → List ℕ → Option (NodeView C S) →
       Option (NodeView C S) → ℕ → Type 0
-  ServesRead it out out2 o o2 n =
-      (given : Asked C S) × IsRead given it × Serves given out out2 o o2 n
+  ServesRead bytes it out out2 o o2 n =
+      (given : Asked C S) × IsRead bytes given it × Serves given out out2 o o2 n
 
   -- infos that are offered to their peers, and bits that are answered by infos
   abbrev pub updated_by : List ℕ → Asked C S

@@ -116,9 +116,9 @@ module _ {C S : Type 0} (k : Scheme C S) where
   IsStepFor (Some (SetOf index primary secondary)) step = (step ≡ Looked)
       ⊎ ((given : Asked C S) × IsTrackRead k index primary secondary given × IsStepOf given step)
   IsStepFor (Some (Infos infos)) step =
-      (given : Asked C S) × IsRead given (updated_by k infos) × IsStepOf given step
+      (given : Asked C S) × IsRead infos given (updated_by k infos) × IsStepOf given step
   IsStepFor (Some (Bits bits seconds nanos)) step =
-      (given : Asked C S) × IsRead given (infos_for k bits seconds nanos) × IsStepOf given step
+      (given : Asked C S) × IsRead bits given (infos_for k bits seconds nanos) × IsStepOf given step
   IsStepFor (Some (Frame frame seconds nanos verdicts)) step = (step ≡ Looked)
       ⊎ ((now : ℕ) × (moment_at seconds nanos ≡ Ok now)
       × ((r : Received C S) × (step ≡ Heard frame now (verdicts_in verdicts) r)))

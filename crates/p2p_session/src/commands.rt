@@ -31,8 +31,8 @@ pub fn peers<C: PublicKey>(
 }
 
 pub fn update_peers<C: PublicKey>(alloc: Global, bytes: &[u8]) -> Result<Command<C>, Refusal>
-    ensures { IsRead (asked result) (and_then (infos_spelled ⟦<C as Keys>⟧.scheme bytes.now) (λ
-        is. Ok (Update is))) }
+    ensures { IsRead bytes.now (asked result) (and_then
+        (infos_spelled ⟦<C as Keys>⟧.scheme bytes.now) (λ is. Ok (Update is))) }
 {
     Ok(Command::UpdatePeers(infos(alloc, bytes)?))
 }
@@ -43,7 +43,7 @@ pub fn infos_for<C: PublicKey>(
     seconds: u64,
     nanos: u32,
 ) -> Result<Command<C>, Refusal>
-    ensures { IsRead (asked result) (and_then (bits_spelled bytes.now) (λ v.
+    ensures { IsRead bytes.now (asked result) (and_then (bits_spelled bytes.now) (λ v.
         at_moment seconds nanos (λ now. Ask (InfosFor v.index v.bits now)))) }
 {
     let bit_vec = bits(alloc, bytes)?;

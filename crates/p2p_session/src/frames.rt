@@ -30,19 +30,19 @@ ghost use Rattle.p2p_session.specs.Frames.{
   IsTaken,
   applied_size,
 };
-ghost use Rattle.p2p_session.specs.Frames.{to_ask, ChecksAt};
+ghost use Rattle.p2p_session.specs.Frames.{ChecksAt};
 ghost use Rattle.p2p_discovery.specs.Judgement.{judge_of};
 ghost use Rattle.p2p_discovery.specs.Payload.{infos_of_payload};
 ghost use Rattle.p2p_discovery.specs.declared.discovery.Payload.TheVariants.{Peers};
 ghost use Rattle.p2p_directory.specs.Nodes.{standing_of};
-ghost use Rattle.p2p_directory.specs.Received.{received_of, AreFew, are_miscounted, IsWantOfMemory};
+ghost use Rattle.p2p_directory.specs.Received.{received_of, AreFew, are_miscounted, to_ask};
+ghost use Rattle.p2p_directory.specs.Received.{IsWantOfMemory};
 
 use crate::answer::{Plain, Values, answer, answer_bytes};
 use crate::checked::Checked;
-use crate::given::moment;
+use crate::given::{copied, moment};
 use crate::refusal::Refusal;
 use crate::scheme::Keys;
-use bytes::Bytes;
 use p2p_directory::node::{Answer, Node, Received};
 use p2p_discovery::codec::{CodecError, FixedBytes, PublicKey, What};
 use p2p_discovery::data::Data;
@@ -124,7 +124,7 @@ fn process<C: PublicKey>(
     match checked.take(frame) {
         Some(decoded) => Ok(node.answer_decoded(decoded, now, verdicts)?),
         None => {
-            let frame = Bytes::copy_from_slice(alloc, frame)?;
+            let frame = copied(alloc, frame)?;
             Ok(node.answer_with_verdicts(frame, now, verdicts)?)
         }
     }
@@ -147,7 +147,7 @@ pub fn check<C: PublicKey>(
         Ok(now) => now,
         Err(refusal) => return refusal.number(),
     };
-    let Ok(frame) = Bytes::copy_from_slice(alloc, frame) else {
+    let Ok(frame) = copied(alloc, frame) else {
         return Refusal::Memory.number();
     };
     match node.decode(frame) {
@@ -214,8 +214,12 @@ fn tell_first<C: PublicKey>(infos: &[Info<C>], count: usize, out: &mut [u8]) -> 
 // The verification results for a session's frame that these bytes encode.
 #[tactic(auto, using(crate::proofs::Puts::map_next))]
 fn verdicts_of(alloc: Global, bytes: &[u8]) -> Result<Vec<bool>, AllocError>
-    ensures { IfOk result (λ v. v.items ≡ verdicts_in bytes.now) }
+    ensures ok { IfOk result (λ v. v.items ≡ verdicts_in bytes.now) }
+    ensures err { OnErr result (0 < length bytes.now) }
 {
+    if bytes.is_empty() {
+        return Ok(Vec::new(alloc));
+    }
     let mut verdicts = Vec::with_capacity(alloc, bytes.len())?;
     for byte in bytes {
         verdicts.push(*byte != 0)?;

@@ -111,16 +111,28 @@ pub fn are_bytes(bytes: &[u8])
     ensures { IsBytes bytes.now }
 {}
 
+/// A copy of the bytes given to a session. It allocates only if there are any.
+pub fn copied(alloc: Global, bytes: &[u8]) -> Result<Bytes, AllocError>
+    ensures ok { IfOk result (λ copy. copy ≡ bytes.now) }
+    ensures err { OnErr result (0 < length bytes.now) }
+{
+    if bytes.is_empty() {
+        return Ok(Bytes::new());
+    }
+    Bytes::copy_from_slice(alloc, bytes)
+}
+
 /// The infos that the bytes given to a session encode.
 #[tactic(auto, using(crate::proofs::Unread::refused_as))]
 pub fn infos<C: PublicKey>(alloc: Global, bytes: &[u8]) -> Result<Vec<Info<C>>, Refusal>
-    ensures { IsRead (infos_of result) (infos_spelled ⟦<C as Keys>⟧.scheme bytes.now) }
+    ensures { IsRead bytes.now (infos_of result)
+        (infos_spelled ⟦<C as Keys>⟧.scheme bytes.now) }
 {
     let limit = RangeCfg {
         least: 0,
         greatest: usize::MAX,
     };
-    let bytes = Bytes::copy_from_slice(alloc, bytes)?;
+    let bytes = copied(alloc, bytes)?;
     match Infos::decode_cfg(alloc, bytes, &limit) {
         Ok(infos) => Ok(infos.into_vec()),
         Err(CodecError::Memory) => Err(Refusal::Memory),
@@ -134,9 +146,9 @@ const GREATEST_BITS: u64 = 0xffff_ffff;
 /// The bits that the bytes given to a session encode, at most `u32::MAX` of them.
 #[tactic(auto, using(crate::proofs::Unread::refused_as))]
 pub fn bits(alloc: Global, bytes: &[u8]) -> Result<BitVec, Refusal>
-    ensures { IsRead result (bits_spelled bytes.now) }
+    ensures { IsRead bytes.now result (bits_spelled bytes.now) }
 {
-    let bytes = Bytes::copy_from_slice(alloc, bytes)?;
+    let bytes = copied(alloc, bytes)?;
     match BitVec::decode_cfg(alloc, bytes, &GREATEST_BITS) {
         Ok(bits) => Ok(bits),
         Err(CodecError::Memory) => Err(Refusal::Memory),

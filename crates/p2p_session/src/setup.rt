@@ -17,10 +17,9 @@ ghost use Rattle.p2p_session.specs.Given.{SpellInfo, are_settings, numbers_at, m
 ghost use Rattle.p2p_session.specs.Given.{IsSetupRead};
 ghost use Rattle.p2p_session.specs.declared.refusal.Refusal.TheVariants.{Memory, BadInfo};
 
-use crate::given::{are_bytes, key_in, moment};
+use crate::given::{are_bytes, copied, key_in, moment};
 use crate::refusal::Refusal;
 use crate::scheme::Keys;
-use bytes::Bytes;
 use p2p_directory::directory::Config;
 use p2p_directory::node::Setup;
 use p2p_discovery::codec::{CodecError, PublicKey, Read, Reader};
@@ -57,6 +56,7 @@ pub fn setup<C: PublicKey>(
     ensures read { IsSetupRead ⟦<C as Keys>⟧.scheme numbers.now namespace.now bootstrappers.now
         myself.now result }
     ensures settings { OnOk result (are_settings numbers.now ≡ true) }
+    ensures some { OnOk result (0 < length myself.now) }
 {
     let cfg = config(numbers)?;
     let synchrony_bound = moment(numbers.bound.0, numbers.bound.1)?;
@@ -111,10 +111,11 @@ fn config(numbers: &Numbers) -> Result<Config, Refusal>
 fn info<C: PublicKey>(alloc: Global, bytes: &[u8]) -> Result<Info<C>, Refusal>
     ensures is_info { IfOk result (IsInfoOfKeys ⟦<C as Keys>⟧.scheme) }
     ensures spelled { IfOk result (λ i. info_spelling C.spelled C.Signature.spelled i ≡ bytes.now) }
-    ensures refused { IfErr result (λ why. (why ≡ Memory) ⊎ ((why ≡ BadInfo) × (¬ SpellInfo
-        ⟦<C as Keys>⟧.scheme bytes.now))) }
+    ensures refused { IfErr result (λ why. ((why ≡ Memory) × (0 < length bytes.now))
+        ⊎ ((why ≡ BadInfo) × (¬ SpellInfo ⟦<C as Keys>⟧.scheme bytes.now))) }
+    ensures some { OnOk result (0 < length bytes.now) }
 {
-    let bytes = Bytes::copy_from_slice(alloc, bytes)?;
+    let bytes = copied(alloc, bytes)?;
     match Info::decode(alloc, bytes) {
         Ok(info) => Ok(info),
         Err(error) => Err(undecoded(error)),
@@ -123,7 +124,8 @@ fn info<C: PublicKey>(alloc: Global, bytes: &[u8]) -> Result<Info<C>, Refusal>
 
 // Why bytes of a session's setup aren't decoded.
 fn undecoded(error: CodecError) -> Refusal
-    ensures { (result ≡ Memory) ⊎ ((result ≡ BadInfo) × (error ≢ fault.Memory)) }
+    ensures { ((result ≡ Memory) × (error ≡ fault.Memory))
+        ⊎ ((result ≡ BadInfo) × (error ≢ fault.Memory)) }
 {
     match error {
         CodecError::Memory => Refusal::Memory,
@@ -138,10 +140,10 @@ fn bootstrappers_of<C: PublicKey>(alloc: Global, bytes: &[u8]) -> Result<Vec<(C,
         bs.items) }
     ensures spelled { IfOk result (λ bs. bootstrappers_spelling ⟦<C as Keys>⟧.scheme bs.items ≡
         bytes.now) }
-    ensures refused { IfErr result (λ why. (why ≡ Memory) ⊎ ((why ≡ BadInfo) × (¬
-        SpellBootstrappers ⟦<C as Keys>⟧.scheme bytes.now))) }
+    ensures refused { IfErr result (λ why. ((why ≡ Memory) × (0 < length bytes.now))
+        ⊎ ((why ≡ BadInfo) × (¬ SpellBootstrappers ⟦<C as Keys>⟧.scheme bytes.now))) }
 {
-    let bytes = Bytes::copy_from_slice(alloc, bytes)?;
+    let bytes = copied(alloc, bytes)?;
     let mut left = Reader::new(&bytes);
     let mut read = Vec::new(alloc);
     while !left.is_empty() {

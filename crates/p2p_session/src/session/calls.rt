@@ -162,8 +162,8 @@ impl<C: PublicKey> Session<C> {
     /// encode as a list. Returns 1. The host must have made or verified the infos itself.
     #[inline(never)]
     pub fn update_peers(&mut self, alloc: Global, infos: &[u8]) -> u64
-        ensures { let k = ⟦<C as Keys>⟧.scheme in ServesRead k (updated_by k infos.now) [] []
-            self.old.node self.new.node result }
+        ensures { let k = ⟦<C as Keys>⟧.scheme in ServesRead k infos.now (updated_by k infos.now)
+            [] [] self.old.node self.new.node result }
     {
         self.serve(commands::update_peers(alloc, infos), &mut [])
     }

@@ -32,8 +32,8 @@ impl<C: PublicKey> Session<C> {
         nanos: u32,
         out: &mut [u8],
     ) -> u64
-        ensures { let k = ⟦<C as Keys>⟧.scheme in ServesRead k (infos_for k bits.now seconds
-            nanos) out.old out.new self.old.node self.new.node result }
+        ensures { let k = ⟦<C as Keys>⟧.scheme in ServesRead k bits.now (infos_for k
+            bits.now seconds nanos) out.old out.new self.old.node self.new.node result }
     {
         self.serve(commands::infos_for(alloc, bits, seconds, nanos), out)
     }

@@ -18,7 +18,7 @@ returns-in-Ok g c = record {
     (
       Memory,
       refused_memory (scheme_by g.C.PartialOrd g.C.Ord g.C.PartialEq g.C.FixedBytes g.C.PublicKey g.C.Signature.PartialEq g.C.Signature.FixedBytes) _ c.args.namespace.now c.args.bootstrappers.now c.args.myself.now
-          c.in-Ok.setup c.args.self.now.node c.in_default.is c.in-Ok.ensures.settings c.in-Ok.ensures.read,
+          c.in-Ok.setup c.args.self.now.node c.in_default.is c.in-Ok.ensures.settings c.in-Ok.ensures.read c.in-Ok.ensures.some,
       r.1,
     ),
   );
