@@ -18,3 +18,4 @@ pub mod Wants
 pub mod Looked
 mod ShownSteps
 mod ShownAnswers
+mod ShownSession

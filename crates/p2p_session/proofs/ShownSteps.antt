@@ -108,7 +108,7 @@ m = record {
   verifier = record { me = 9; greatest_count = 8; synchrony_bound = sec 30; namespace = [] };
 }
 
-exact : (q p : ℕ) → nat_cmp q p ≡ Equal → q ≡ p
+pub exact : (q p : ℕ) → nat_cmp q p ≡ Equal → q ≡ p
 exact q p e = ranked q p Equal (sym e)
 
 -- ---- a new node
@@ -182,10 +182,10 @@ stands = record {
 
 -- ---- the steps
 
-abbrev latest : Reply ℕ ℕ
+abbrev pub latest : Reply ℕ ℕ
 latest = reply.LatestSetIndex None
 
-leads_on_by_call : Leads k (Called (Ask LatestIndex) latest) v v
+pub leads_on_by_call : Leads k (Called (Ask LatestIndex) latest) v v
 leads_on_by_call = (
   λ given calls at.
       let s = (made_of nat_cmp given).directory in
@@ -230,7 +230,7 @@ kept true infos = go (first_greatest infos)
     go None = refl
     go (Some i) = refl
 
-updates : Updates nat_cmp v.directory v.directory (greeter ∷ [])
+pub updates : Updates nat_cmp v.directory v.directory (greeter ∷ [])
 updates = record {
   config = refl;
   sets = refl;
@@ -239,7 +239,7 @@ updates = record {
   records = λ q. kept _ (infos_of nat_cmp (greeter ∷ []) q);
 }
 
-seen : AnswersFrame nat_cmp (wire k) (given_verdicts (true ∷ [])) greeting (sec 100)
+pub seen : AnswersFrame nat_cmp (wire k) (given_verdicts (true ∷ [])) greeting (sec 100)
     (received.Greeted 1) v v
 unfolding payload_at body_at data_at message_at length_at groups groups_at texts.info_at ingress_at
     ip_at
@@ -254,7 +254,7 @@ leads_on_by_frame = record {
       (given_verdicts (true ∷ [])) greeting (sec 100) (received.Greeted 1) v seen;
 }
 
-leads_on_by_refusal : Leads k (Called (Dial 1 (sec 101) 0) reply.OutOfMemory) v v
+pub leads_on_by_refusal : Leads k (Called (Dial 1 (sec 101) 0) reply.OutOfMemory) v v
 leads_on_by_refusal = (
   λ given calls at. record { answer = inr (refl, refl); left = at },
   λ no. refl,
@@ -286,7 +286,7 @@ module _ (given : Setup ℕ ℕ) (is : made_of nat_cmp given ≡ m) where
   abbrev Stands : List (Call ℕ ℕ) → NodeView ℕ ℕ → Type 0
   Stands calls v = NodeStandsAt (made_of nat_cmp given) calls v
 
-  stands_so : Stands [] v
+  pub stands_so : Stands [] v
   stands_so = subst (λ m. NodeStandsAt m [] v) (sym is) stands
 
   shown : AreRun k (made_of nat_cmp given) steps v
@@ -303,7 +303,7 @@ module _ (given : Setup ℕ ℕ) (is : made_of nat_cmp given ≡ m) where
       (h.0 given [] stands_so).left
 
   -- the session is made anew at a call: its node has no block
-  anew_is_refused : Leads k (Called (Block 1 0) (reply.Block true)) v v → ⊥
+  pub anew_is_refused : Leads k (Called (Block 1 0) (reply.Block true)) v v → ⊥
   anew_is_refused h = absurd
       (let e : None ≡ Some (sec 60) = (blocked 1 [] h).refines.blocks 1 in cc)
 
