@@ -8,6 +8,9 @@ use Rattle.p2p_directory.specs.declared.node.setup.Setup.{Setup}
 use Rattle.p2p_tracker.specs.Calls.{Call}
 use Rattle.p2p_directory.specs.Nodes.{NodeView, NodeStandsAt, made_of}
 use Rattle.p2p_session.specs.declared.refusal.Refusal.{Refusal}
+use Rattle.p2p_session.specs.declared.refusal.Refusal.TheVariants as refusal
+use Rattle.p2p_directory.specs.declared.run.commands.Reply.{Reply}
+use Rattle.p2p_session.specs.Answers.{Refuses}
 use Rattle.p2p_session.specs.declared.session.Session.{Session}
 use Rattle.p2p_session.specs.Frames.{ReceivesAt, verdicts_in}
 use Rattle.p2p_session.specs.Given.{Asked, moment_at}
@@ -28,11 +31,11 @@ module _ {C S : Type 0} (k : Scheme C S) where
 
   -- ---- one call
 
-  -- what a call shows of any node
-  abbrev ShowsAny : Served C S → Type 0
-  ShowsAny call = (v : NodeView C S) → IsShown k call.asked call.out call.out2 call.n v
+  -- what a call that is this step shows of any node
+  abbrev ShowsAny : Served C S → Step C S → Type 0
+  ShowsAny call step = (v : NodeView C S) → IsShown k call.asked step call.out call.out2 call.n v
 
-  rests : (call : Served C S) → IsStepFor k call.asked Looked → ShowsAny call →
+  rests : (call : Served C S) → IsStepFor k call.asked Looked → ShowsAny call Looked →
       (o o2 : Option (NodeView C S)) → o2 ≡ o → Goes k call o o2
   rests call is shows None None e = tt
   rests call is shows None (Some v) e = absurd (cc)
@@ -56,16 +59,22 @@ module _ {C S : Type 0} (k : Scheme C S) where
       ((step : Step C S) → IsStepOf k given step → IsStepFor k call.asked step) →
       ((step : Step C S) → TellsStep k step out out2 n →
       TellsStep k step call.out call.out2 call.n
-      ⊎ ((call.out2 ≡ call.out) × TellsStep k step [] [] call.n)) → ShowsAny call →
+      ⊎ ((call.out2 ≡ call.out) × TellsStep k step [] [] call.n)) →
+      ((c : Call C S) (r : Reply C S) → ShowsAny call (Called c r)) →
+      ((why : Refusal) → Refuses why out out2 n → ShowsAny call Looked) →
       (v v2 : NodeView C S) → Makes k given out out2 v v2 n → Goes k call (Some v) (Some v2)
-  makes call (Ok c) out out2 n asked told shows v v2 h = (
+  makes call (Ok c) out out2 n asked told shows refuses v v2 h = (
     Called c h.0,
     record { asked_for = asked (Called c h.0) (h.0, refl); told = told (Called c h.0) h.1.told },
     (h.1.stepped, h.1.unchanged),
-    shows v,
+    shows c h.0 v,
   )
-  makes call (Err why) out out2 n asked told shows v v2 h =
-      (Looked, record { asked_for = asked Looked refl; told = told Looked tt }, h.0, shows v)
+  makes call (Err why) out out2 n asked told shows refuses v v2 h = (
+    Looked,
+    record { asked_for = asked Looked refl; told = told Looked tt },
+    h.0,
+    refuses why h.1 v,
+  )
 
   takes : (frame verdicts : List ℕ) (seconds nanos : ℕ) (out out2 : List ℕ) (n : ℕ)
       (now : Result ℕ Refusal) →
@@ -73,7 +82,7 @@ module _ {C S : Type 0} (k : Scheme C S) where
       ReceivesAt k (verdicts_in verdicts) frame now out out2 v v2 n →
       Goes k (served (Some (Frame frame seconds nanos verdicts)) out out2 n) (Some v) (Some v2)
   takes frame verdicts seconds nanos out out2 n now e v v2 (inl h) =
-      (Looked, record { asked_for = inl refl; told = inl tt }, h.2, tt)
+      (Looked, record { asked_for = inl refl; told = inl tt }, h.2, (h.0, h.3))
   takes frame verdicts seconds nanos out out2 n (Ok t) e v v2 (inr h) = (
     Heard frame t (verdicts_in verdicts) h.0,
     record { asked_for = inr (t, e, (h.0, refl)); told = inl h.3 },
@@ -95,33 +104,45 @@ module _ {C S : Type 0} (k : Scheme C S) where
       ServesRequest k asked out out2 before after n →
       Goes k (served asked out out2 n) before.node after.node
   requests None out out2 before after n h =
-      rests (served None out out2 n) refl (λ v. tt) before.node after.node (ap (λ s. s.node) h.0)
+      rests (served None out out2 n) refl (λ v. (refusal.BadCall, h.1)) before.node after.node
+      (ap (λ s. s.node) h.0)
   requests (Some (Numbered given)) out out2 before after n h =
       let call = served (Some (Numbered given)) out out2 n in
-      of_node call _ [] [] n (makes call given [] [] n (λ step is. is) (λ step t. inr (h.0, t))
-      (λ v. tt))
+      of_node call _ [] [] n
+      (makes call given [] [] n (λ step is. is) (λ step t. inr (h.0, t)) (λ c r v. tt)
+      (λ why t v. (why, (t.0, h.0))))
       before.node after.node h.1
   requests (Some (Written given)) out out2 before after n h =
       let call = served (Some (Written given)) out out2 n in
       of_node call _ out out2 n
-      (makes call given out out2 n (λ step is. is) (λ step t. inl t) (λ v. tt))
+      (makes call given out out2 n (λ step is. is) (λ step t. inl t) (λ c r v. tt)
+      (λ why t v. (why, t)))
       before.node after.node h
   requests (Some (SetOf index primary secondary)) out out2 before after n h =
       let call = served (Some (SetOf index primary secondary)) out out2 n in
       of_node call _ out out2 n (λ v v2 is. elim is [
-        | inl lacks ↦ (Looked, record { asked_for = inl refl; told = inl tt }, lacks.1, tt)
+        | inl lacks ↦ (
+          Looked,
+          record { asked_for = inl refl; told = inl tt },
+          lacks.1,
+          (refusal.NoRoom, lacks.2),
+        )
         | inr taken ↦ makes call taken.2.0 out out2 n (λ step is. inr (taken.2.0, taken.2.1, is))
-            (λ step t. inl t) (λ v. tt) v v2 taken.2.2
+            (λ step t. inl t) (λ c r v. tt)
+            (λ why t v. (why, t)) v v2 taken.2.2
       ]) before.node after.node h
   requests (Some (Infos infos)) out out2 before after n h =
       let call = served (Some (Infos infos)) out out2 n in
       of_node call _ [] [] n
-      (makes call h.1.0 [] [] n (λ step is. (h.1.0, h.1.1, is)) (λ step t. inr (h.0, t)) (λ v. tt))
+      (makes call h.1.0 [] [] n (λ step is. (h.1.0, h.1.1, is)) (λ step t. inr (h.0, t))
+      (λ c r v. tt)
+      (λ why t v. (why, (t.0, h.0))))
       before.node after.node h.1.2
   requests (Some (Bits bits seconds nanos)) out out2 before after n h =
       let call = served (Some (Bits bits seconds nanos)) out out2 n in
       of_node call _ out out2 n
-      (makes call h.0 out out2 n (λ step is. (h.0, h.1, is)) (λ step t. inl t) (λ v. tt))
+      (makes call h.0 out out2 n (λ step is. (h.0, h.1, is)) (λ step t. inl t) (λ c r v. tt)
+      (λ why t v. (why, t)))
       before.node after.node h.2
   requests (Some (Frame frame seconds nanos verdicts)) out out2 before after n h =
       of_node (served (Some (Frame frame seconds nanos verdicts)) out out2 n) _ out out2 n
@@ -137,7 +158,8 @@ module _ {C S : Type 0} (k : Scheme C S) where
         | inl is ↦ let made = h.1.made is.1 in
             inits call made.1.0 before.node after.node made.0
             (λ v at. (made.1.0, record { asked_for = made.1.1; returned = is.1 }, at)) made.1.2
-        | inr other ↦ rests call refl (λ v. tt) before.node after.node ((h.1.refused other.1).0)
+        | inr other ↦ let why = h.1.refused other.1 in
+            rests call refl (λ v. (why.1.0, (why.1.2, h.0))) before.node after.node why.0
       ]
 
   pub requested : (call : Served C S) (before after : Session C S) →

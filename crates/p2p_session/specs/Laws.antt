@@ -3,13 +3,16 @@ use Rattle.std.specs.Prelude.{◌≡◌, ◌⊎◌, ℕ, List, [], ◌∷◌, �
 use Rattle.p2p_tracker.specs.Calls.{Call}
 use Rattle.p2p_directory.specs.Nodes.{NodeView, Made, NodeStandsAt, made_of}
 use Rattle.p2p_directory.specs.declared.node.setup.Setup.{Setup}
+use Rattle.p2p_session.specs.declared.refusal.Refusal.{Refusal}
 use Rattle.p2p_session.specs.declared.session.Session.{Session}
 use Rattle.p2p_session.specs.Schemes.{Scheme}
+use Rattle.p2p_session.specs.Answers.{Refuses}
 use Rattle.p2p_session.specs.Given.{IsSetup}
 use Rattle.p2p_session.specs.Requests.{Request, ServesRequest}
 use Rattle.p2p_session.specs.Requests.Request.{Init, Looking}
 use Rattle.p2p_session.specs.Sessions.{Shows}
 use Rattle.p2p_session.specs.Steps.{Step, Leads, AreRun, IsStepFor, TellsStep, taken_with}
+use Rattle.p2p_session.specs.Steps.Step.{Looked}
 
 -- a call of a session: what is asked for, the room for its answer before and after it, and the
 -- number that is returned
@@ -29,10 +32,12 @@ module _ {C S : Type 0} (k : Scheme C S) where
     pub told : TellsStep k step call.out call.out2 call.n
         ⊎ ((call.out2 ≡ call.out) × TellsStep k step [] [] call.n)
 
-  -- a look is answered by what it shows of this node
-  abbrev pub IsShown : Option (Request C S) → List ℕ → List ℕ → ℕ → NodeView C S → Type 0
-  IsShown (Some (Looking look)) out out2 n v = Shows k look v out out2 n
-  IsShown _ out out2 n v = Unit {0}
+  -- a look is answered by what it shows of this node, and what else is no call and no frame by a
+  -- refusal
+  abbrev pub IsShown : Option (Request C S) → Step C S → List ℕ → List ℕ → ℕ → NodeView C S → Type 0
+  IsShown (Some (Looking look)) step out out2 n v = Shows k look v out out2 n
+  IsShown _ Looked out out2 n v = (why : Refusal) × Refuses why out out2 n
+  IsShown _ _ out out2 n v = Unit {0}
 
   -- what was asked for is a node from this setup
   abbrev pub AsksFor : Option (Request C S) → Setup C S → Type 0
@@ -53,7 +58,7 @@ module _ {C S : Type 0} (k : Scheme C S) where
       × NodeStandsAt (made_of k.key.cmp given) [] v
   Goes call (Some v) None = ⊥
   Goes call (Some v) (Some v2) = (step : Step C S) × IsStep call step × Leads k step v v2
-      × IsShown call.asked call.out call.out2 call.n v
+      × IsShown call.asked step call.out call.out2 call.n v
 
   -- ---- all calls of a session, the oldest first
 
@@ -70,10 +75,11 @@ module _ {C S : Type 0} (k : Scheme C S) where
   AreSteps (call ∷ calls) (step ∷ steps) = IsStep call step × AreSteps calls steps
   AreSteps _ _ = ⊥
 
-  -- .. and each look among them is answered by what it shows of a node that stands at its point
+  -- .. and each look among them is answered by what it shows of a node that stands at its point,
+  -- and each refusal by why
   abbrev pub AreShownAt : Made C S → List (Call C S) → List (Served C S) → List (Step C S) → Type 0
   AreShownAt m before (call ∷ calls) (step ∷ steps) = ((v : NodeView C S)
-      × NodeStandsAt m before v × IsShown call.asked call.out call.out2 call.n v)
+      × NodeStandsAt m before v × IsShown call.asked step call.out call.out2 call.n v)
       × AreShownAt m (taken_with k m before step) calls steps
   AreShownAt m before _ _ = Unit {0}
 

@@ -32,11 +32,11 @@ use crate::scheme::Keys;
 use p2p_discovery::codec::PublicKey;
 
 /// By a law of sessions, a session is a run. Whatever is asked for is one step of its node: the
-/// call or the frame that was asked for, with its reply encoded, or nothing. There is no node
-/// before `init`, which makes it from what it was given. From there on, the steps are the calls of
-/// a run with their replies: each is the answer at its point, and so is that of each look; the node
-/// is at the point after the accepted calls, and what is promised of a run holds of them.
-/// docs/PROOFS.md has this below "Call after call".
+/// call or the frame that was asked for, with its reply encoded, or nothing, which a look or a
+/// refusal is. There is no node before `init`, which makes it from what it was given. From there
+/// on, the steps are the calls of a run with their replies: each is the answer at its point, and so
+/// is that of each look; the node is at the point after the accepted calls, and what is promised of
+/// a run holds of them. docs/PROOFS.md has this below "Call after call".
 pub fn sessions_go_on<C: PublicKey>()
     ensures requested { (call : Served C C.Signature) (before after : Session C C.Signature) →
         ServesRequest ⟦<C as Keys>⟧.scheme call.asked call.out call.out2 before after call.n →
