@@ -1,8 +1,6 @@
 -- A node that steps lead on: a call, a greeting that is accepted, a look, and a call that was
--- refused
--- for memory. A session that is made anew at a call isn't led so, nor one that serves the call
--- before
--- again.
+-- refused for memory. A session that is made anew at a call isn't led so, nor one that serves the
+-- call before again.
 use Rattle.std.proofs.Common.{◌≡◌, ℕ, ◌*◌, ◌^◌, ◌||◌, inl, inr, Bool, true, false, cond, List, []}
 use Rattle.std.proofs.Common.{◌∷◌, Option, Some, None, Ok, refl, sym, subst, ap, ◌∙◌, arith}
 use Rattle.std.specs.Prelude.{◌==◌, option_map}
