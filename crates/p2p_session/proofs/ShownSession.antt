@@ -1,5 +1,5 @@
--- A session whose node `init` makes in the setting of ShownSteps, and that then serves a question, a
--- frame, a look and a call that is refused for memory, is a run. One that is made anew at a call
+-- A session whose node `init` makes in the setting of ShownSteps, and that then serves a question,
+-- a frame, a look and a call that is refused for memory, is a run. One that is made anew at a call
 -- isn't served so.
 use Rattle.std.proofs.Common.{◌≡◌, inl, inr, ℕ, ◌^◌, ◌-◌, Bool, true, false, List, [], ◌∷◌, Option}
 use Rattle.std.proofs.Common.{Some, None, Ok, refl, subst, arith}
