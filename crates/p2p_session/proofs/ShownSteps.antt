@@ -43,9 +43,10 @@ use Rattle.p2p_directory.specs.Nodes.{NodeView, Made, NodeStandsAt, AnswersFrame
 use Rattle.p2p_directory.specs.Nodes.{made_of}
 use Rattle.p2p_directory.specs.Refinement.{config_of, record_in}
 use Rattle.p2p_directory.specs.Run.{world_after}
-use Rattle.p2p_directory.proofs.Definitions.ByteKeys.{IsByte, spelled}
+use Rattle.p2p_directory.proofs.Definitions.ByteKeys.{IsByte, spelled, is_fixed}
 use Rattle.p2p_directory.proofs.Definitions.GossipExamples.{one}
 use Rattle.p2p_directory.proofs.Definitions.Keys.{exact_from}
+use Rattle.p2p_directory.proofs.LawsOfGossip.FramesByVerdicts.{is_judged}
 use Rattle.p2p_directory.proofs.Nodes.Worlds.{received_in}
 use Rattle.p2p_directory.proofs.Reservations.Effects.{idle}
 use Rattle.p2p_session.specs.Schemes.{Scheme, wire}
@@ -250,6 +251,8 @@ leads_on_by_frame = record {
   received = λ given calls at. received_in (made_of nat_cmp given) (wire k) calls v at
       given.cfg.max_sets.ok
       (given_verdicts (true ∷ [])) greeting (sec 100) (received.Greeted 1) v seen;
+  judged = is_judged is_fixed is_fixed (wire k).verifies nat_cmp nat_cmp_total exact (true ∷ [])
+      greeting (sec 100) (received.Greeted 1) v v seen;
 }
 
 pub leads_on_by_refusal : Leads k (Called (Dial 1 (sec 101) 0) reply.OutOfMemory) v v

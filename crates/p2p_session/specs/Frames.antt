@@ -6,9 +6,7 @@ use Rattle.p2p_discovery.specs.declared.codec.error.CodecError.TheVariants as fa
 use Rattle.p2p_discovery.specs.declared.codec.error.What.TheVariants as what
 use Rattle.p2p_discovery.specs.declared.discovery.Error.{Error}
 use Rattle.p2p_discovery.specs.declared.discovery.Error.TheVariants as error
-use Rattle.p2p_discovery.specs.declared.discovery.Info.{Info}
 use Rattle.p2p_discovery.specs.declared.discovery.Payload.{Payload}
-use Rattle.p2p_discovery.specs.declared.discovery.Payload.TheVariants as said
 use Rattle.p2p_discovery.specs.Ingress.{ingress_spelling}
 use Rattle.p2p_discovery.specs.Judgement.{Judge, judge_of}
 use Rattle.p2p_discovery.specs.Payload.{infos_of_payload}
