@@ -1,6 +1,6 @@
 -- Three frames of worked example 16 are its exchange, with a frame at another node between. With a
 -- call of the replier between they aren't, and the exchange then comes to something else.
-use Rattle.std.proofs.Common.{◌≡◌, ℕ, [], ◌∷◌, refl, ap, ◌∙◌, inr, arith}
+use Rattle.std.proofs.Common.{◌≡◌, ℕ, [], ◌∷◌, ◌++◌, refl, ap, ◌∙◌, inr, arith}
 use Rattle.p2p_discovery.specs.declared.codec.error.CodecError.TheVariants.{EndOfBuffer}
 use Rattle.p2p_discovery.specs.Payload.{body_at, payload_at}
 use Rattle.p2p_discovery.specs.Data.{data_at, message_at}
@@ -26,6 +26,7 @@ use Rattle.p2p_directory.specs.Network.{Done, IsNetworkAnswer, AreNetworkAnswers
 use Rattle.p2p_directory.specs.Laws.InTurn.{Steps, commands_of, replies_of}
 use Rattle.p2p_directory.specs.Laws.ExchangeFrames.{ExchangeFrames, AreExchange}
 use Rattle.p2p_directory.specs.Laws.ExchangeFrames.{frame_steps, exchange_steps, IsSpelledAfter}
+use Rattle.p2p_directory.specs.Laws.ExchangeFrames.{AreCounted}
 use Rattle.p2p_directory.specs.Laws.ExchangeFrames.ExchangeFrames.{Replied}
 use Rattle.p2p_directory.proofs.LawsOfNetworks.ExchangeFrames.{answered_by}
 use Rattle.p2p_directory.proofs.Definitions.Setting.{sec}
@@ -101,6 +102,30 @@ module _ (brought : Infos) (is_brought : brought.items ≡ signed 1 100000 ∷ [
       items_at list_at
   is_exchange = answered_by wire 3 three 0 1 0 (seconds 70) (seconds 100) done (with_between other)
       outcome are_exchange (λ made. (peers_1, (bits, refl, refl, refl), refl)) are_answered.0
+
+  are_counted : AreCounted wire 3 three Any Any 1 (first ++ (framed other ++ []))
+      (first
+      ++ (exchange_steps 0 1 0 (seconds 70) (seconds 100) (with_between other) outcome ++ []))
+  are_counted = (
+    first
+        ++ (exchange_steps 0 1 0 (seconds 70) (seconds 100) (with_between other) outcome ++ []),
+    record {
+      asker = 0;
+      replier = 1;
+      place = 0;
+      s = seconds 70;
+      t = seconds 100;
+      frames = with_between other;
+      r = outcome;
+      before = first;
+      after = [];
+      are_exchange = are_exchange;
+      spelled = λ made. spelled;
+      in_frames = refl;
+      in_exchange = refl;
+    },
+    refl,
+  )
 
   not_exchange : AreExchange wire 3 three 0 1 (with_between release) outcome → ⊥
   not_exchange are = let named = are.between.1.0.1 in cc

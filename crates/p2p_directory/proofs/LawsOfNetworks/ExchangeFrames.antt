@@ -1,4 +1,5 @@
 -- Frames count as one exchange: what they were answered is what it comes to.
+use Rattle.std.proofs.Common.{zero, suc}
 use Rattle.std.proofs.Common.{◌≡◌, ℕ, length, Bool, true, false, List, [], ◌∷◌, ◌++◌, Option, Some}
 use Rattle.std.proofs.Common.{None, Result, Ok, Err, refl, sym, ◌∙◌, ap, subst}
 use Rattle.std.specs.Prelude.{if◌then◌else◌, ◌==◌, ◌||◌, ◌&&◌, not, is_some, option_map}
@@ -32,7 +33,7 @@ use Rattle.p2p_directory.specs.Run as run
 use Rattle.p2p_directory.specs.Run.{call_of, world_after, bit_vec_of}
 use Rattle.p2p_directory.specs.Nodes.{NodeView, Made, NodeStandsAt, standing_in, calls_with}
 use Rattle.p2p_directory.specs.Exchange.{ExchangeOutcome, IsCarried, IsExchangeAnswer, exchanged_at}
-use Rattle.p2p_directory.specs.Exchange.{exchange_may_want_memory, infos_applied}
+use Rattle.p2p_directory.specs.Exchange.{exchange_may_want_memory, infos_applied, CanBeSpelled}
 use Rattle.p2p_directory.specs.Exchange.ExchangeOutcome.{NoSet, AskRefused, Malformed, ReplyRefused}
 use Rattle.p2p_directory.specs.Exchange.ExchangeOutcome.{Invalid, Applied}
 use Rattle.p2p_directory.specs.Network.{Done, changed_by, calls_then, calls_at, are_there, is_node}
@@ -42,6 +43,7 @@ use Rattle.p2p_directory.specs.Laws.InTurn.{Steps, IsNetworkRun, commands_of, re
 use Rattle.p2p_directory.specs.Laws.ExchangeFrames.{ExchangeFrames, names, NameNeither}
 use Rattle.p2p_directory.specs.Laws.ExchangeFrames.{IsRefusedReply, IsTakenReply}
 use Rattle.p2p_directory.specs.Laws.ExchangeFrames.{frame_steps, exchange_steps, ComeTo}
+use Rattle.p2p_directory.specs.Laws.ExchangeFrames.{AreCounted}
 use Rattle.p2p_directory.specs.Laws.ExchangeFrames.{AreExchange}
 use Rattle.p2p_directory.specs.Laws.ExchangeFrames.ExchangeFrames.{NoFrame, NoMemory, Asked}
 use Rattle.p2p_directory.specs.Laws.ExchangeFrames.ExchangeFrames.{Replied}
@@ -606,13 +608,13 @@ module _ {C S : Type 0} (wire : Wire C S) (size : ℕ) (node : ℕ → Made C S)
       ended : (steps : Steps C S) → By [] (before ++ (steps ++ after)) ≡ By (By d steps) after
       ended steps = after_both before (steps ++ after) [] ∙ after_both steps after d
 
-      pub same_calls : Alike (By [] (before ++ (exchanging ++ after)))
+      same_calls : Alike (By [] (before ++ (exchanging ++ after)))
           (By [] (before ++ (framed ++ after)))
       same_calls i = ap (λ q. calls q i) (ended exchanging)
           ∙ alike_after after (By d exchanging) (By d framed) (same_by x r d are.outcome) i
           ∙ ap (λ q. calls q i) (sym (ended framed))
 
-      pub is_run : (vs : List (NodeView C S)) → IsSo d r →
+      is_run : (vs : List (NodeView C S)) → IsSo d r →
           IsNetworkRun wire size node (before ++ (framed ++ after)) vs →
           IsNetworkRun wire size node (before ++ (exchanging ++ after)) vs
       is_run vs carried h =
@@ -630,3 +632,39 @@ module _ {C S : Type 0} (wire : Wire C S) (size : ℕ) (node : ℕ → Made C S)
                   (sym (same_calls i)) (h.stand.each i v lt);
             };
           }
+
+  -- ANY NUMBER OF EXCHANGES
+
+  module _ (IsKey : C → Type 0) (IsSignature : S → Type 0) where
+    abbrev Counted : ℕ → Steps C S → Steps C S → Type 0
+    Counted n steps counted = AreCounted wire size node IsKey IsSignature n steps counted
+
+    pub same_after : (n : ℕ) (steps counted : Steps C S) → Counted n steps counted →
+        Alike (By [] counted) (By [] steps)
+    same_after zero steps counted same = λ i. ap (λ x. calls (By [] x) i) same
+    same_after (suc n) steps counted h = λ i. let one = h.1 in
+        same_after n h.0 counted h.2 i ∙ ap (λ x. calls (By [] x) i) one.in_exchange
+        ∙ same_calls one.asker one.replier one.place one.s one.t one.frames one.r one.are_exchange
+        one.before one.after i
+        ∙ sym (ap (λ x. calls (By [] x) i) one.in_frames)
+
+    -- where what is told is carried
+    pub stays_run : ((a b : Standing C S) (place s t : ℕ) →
+        CanBeSpelled IsKey IsSignature a b place t →
+        IsCarried wire a b place s t (exchanged_at a b place s t)) →
+        (n : ℕ) (steps counted : Steps C S) → Counted n steps counted →
+        (vs : List (NodeView C S)) → IsNetworkRun wire size node steps vs →
+        IsNetworkRun wire size node counted vs
+    stays_run carried zero steps counted same vs run =
+        subst (λ x. IsNetworkRun wire size node x vs) (sym same) run
+    stays_run carried (suc n) steps counted h vs run =
+        let one = h.1 in
+        let d = By [] one.before in
+        stays_run carried n h.0 counted h.2 vs
+        (subst (λ x. IsNetworkRun wire size node x vs) (sym one.in_exchange)
+        (is_run one.asker one.replier one.place one.s one.t one.frames one.r one.are_exchange
+        one.before one.after vs
+        (λ made. carried (standing_at wire size node d one.asker)
+        (standing_at wire size node d one.replier) one.place (as_nanos one.s) (as_nanos one.t)
+        (one.spelled made))
+        (subst (λ x. IsNetworkRun wire size node x vs) one.in_frames run)))

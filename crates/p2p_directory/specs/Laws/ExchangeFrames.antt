@@ -1,7 +1,8 @@
 -- Exchanges of which each frame is a call of its own, among what else is done to a network.
 use Rattle.std.specs.Prelude.{◌≡◌, ℕ, Bool, true, false, ◌==◌, ◌||◌, List, [], ◌∷◌, ◌++◌, Some}
-use Rattle.std.specs.Prelude.{None}
+use Rattle.std.specs.Prelude.{None, zero, suc}
 use Rattle.std.specs.List.{AllByRecursion}
+use Rattle.std.specs.Duration.{as_nanos}
 use Rattle.std.specs.declared.time.Duration.{Duration}
 use Rattle.p2p_discovery.specs.declared.discovery.Info.{Info}
 use Rattle.p2p_directory.specs.declared.node.received.Received.{Received}
@@ -110,3 +111,30 @@ module _ {C S : Type 0} (wire : Wire C S) (size : ℕ) (node : ℕ → Made C S)
   IsSpelledAfter IsKey IsSignature steps asker replier place t =
       CanBeSpelled IsKey IsSignature (standing_at wire size node (done_by steps) asker)
       (standing_at wire size node (done_by steps) replier) place t
+
+  -- COUNTED: by these keys and signatures
+  module _ (IsKey : C → Type 0) (IsSignature : S → Type 0) where
+    -- the frames of one exchange count as the exchange, and what is told has a spelling, unless
+    -- memory was refused
+    pub record CountsOne (steps counted : Steps C S) : Type 0 where
+      pub asker : ℕ
+      pub replier : ℕ
+      pub place : ℕ
+      pub s : Duration
+      pub t : Duration
+      pub frames : ExchangeFrames C S
+      pub r : Exchanged C S
+      pub before : Steps C S
+      pub after : Steps C S
+      pub are_exchange : AreExchange asker replier frames r
+      pub spelled : ¬ (r ≡ exchanged.Memory) →
+          IsSpelledAfter IsKey IsSignature before asker replier place (as_nanos t)
+      pub in_frames : steps ≡ before ++ (frame_steps asker replier place s t frames ++ after)
+      pub in_exchange : counted
+          ≡ before ++ (exchange_steps asker replier place s t frames r ++ after)
+
+    -- .. of so many, one after the other
+    abbrev pub AreCounted : ℕ → Steps C S → Steps C S → Type 0
+    AreCounted zero steps counted = counted ≡ steps
+    AreCounted (suc n) steps counted =
+        (between : Steps C S) × CountsOne steps between × AreCounted n between counted

@@ -1,7 +1,6 @@
 //! Laws of the frames and the exchanges of nodes.
 
-ghost use Rattle.std.specs.Prelude.{◌≡◌, ◌<◌, ◌^◌, ℕ, Bool, true, List, [], ◌++◌};
-ghost use Rattle.std.specs.declared.time.Duration.{Duration};
+ghost use Rattle.std.specs.Prelude.{◌≡◌, ◌<◌, ◌^◌, ℕ, Bool, true, List, []};
 ghost use Rattle.p2p_tracker.specs.Calls.{Call};
 ghost use Rattle.p2p_discovery.specs.Info.{IsInfo, IsKeyed};
 ghost use Rattle.p2p_directory.specs.Received.{Wire, Standing, verdicts_of, wire_of};
@@ -13,12 +12,7 @@ ghost use Rattle.p2p_directory.specs.Laws.LateFrames.{TakesLateAt};
 ghost use Rattle.p2p_directory.specs.declared.node.received.Received.{Received};
 ghost use Rattle.p2p_directory.specs.declared.node.setup.Setup.{Setup};
 ghost use Rattle.p2p_directory.specs.Network.{is_node, OfNetwork, StandAfter, calls_at};
-ghost use Rattle.p2p_directory.specs.declared.node.exchanged.Exchanged.{Exchanged};
-ghost use Rattle.p2p_directory.specs.declared.node.exchanged.Exchanged.TheVariants as exchanged;
-ghost use Rattle.std.specs.Duration.{as_nanos};
-ghost use Rattle.p2p_directory.specs.Laws.ExchangeFrames.{ExchangeFrames, AreExchange};
-ghost use Rattle.p2p_directory.specs.Laws.ExchangeFrames.{frame_steps, exchange_steps};
-ghost use Rattle.p2p_directory.specs.Laws.ExchangeFrames.{IsSpelledAfter, done_by};
+ghost use Rattle.p2p_directory.specs.Laws.ExchangeFrames.{AreCounted, done_by};
 ghost use Rattle.p2p_directory.specs.Laws.InTurn.{Steps, AreServedInTurn, not_refused};
 ghost use Rattle.p2p_directory.specs.Laws.InTurn.{IsNetworkRun};
 ghost use Rattle.p2p_directory.specs.Laws.Network.{AreMade, OfAll, OfAnswers, AtEachPoint};
@@ -73,29 +67,20 @@ pub fn nodes_are_a_network<C: PublicKey>()
 
 /// By a law of gossip, frames are an exchange: an `Ask` of one node, the frame at another and its
 /// reply at the first, with no call of either between, count as one `Exchange`, with the outcome
-/// that they came to. A run stays a run, and each node stands where it stood. So the laws of
-/// exchanges hold of them. docs/PROOFS.md has this below "Exchanges".
+/// that they came to. However many are counted, a run stays a run, and each node accepted the same
+/// calls. So the laws of exchanges hold of them. docs/PROOFS.md has this below "Exchanges".
 pub fn frames_are_an_exchange<C: PublicKey>()
     ensures run { (verifies : C → List ℕ → List ℕ → C.Signature → Bool) →
         let wire = wire_of verifies C.FixedBytes C.Signature.FixedBytes in
-        (size : ℕ) (node : ℕ → Made C C.Signature) (asker replier place : ℕ) (s t : Duration)
-        (x : ExchangeFrames C C.Signature) (r : Exchanged C C.Signature) →
-        AreExchange wire size node asker replier x r →
-        (before after : Steps C C.Signature) (vs : List (NodeView C C.Signature)) →
-        (¬ (r ≡ exchanged.Memory) → IsSpelledAfter wire size node C.IsValue C.Signature.IsValue
-        before asker replier place (as_nanos t)) →
-        IsNetworkRun wire size node
-        (before ++ (frame_steps asker replier place s t x ++ after)) vs →
-        IsNetworkRun wire size node
-        (before ++ (exchange_steps asker replier place s t x r ++ after)) vs }
-    ensures calls { (wire : Wire C C.Signature) (size : ℕ) (node : ℕ → Made C C.Signature)
-        (asker replier place : ℕ) (s t : Duration) (x : ExchangeFrames C C.Signature)
-        (r : Exchanged C C.Signature) → AreExchange wire size node asker replier x r →
-        (before after : Steps C C.Signature) (i : ℕ) →
-        calls_at wire size node (done_by wire size node
-        (before ++ (exchange_steps asker replier place s t x r ++ after))) i
-        ≡ calls_at wire size node (done_by wire size node
-        (before ++ (frame_steps asker replier place s t x ++ after))) i }
+        (size : ℕ) (node : ℕ → Made C C.Signature) (n : ℕ) (steps counted : Steps C C.Signature) →
+        AreCounted wire size node C.IsValue C.Signature.IsValue n steps counted →
+        (vs : List (NodeView C C.Signature)) → IsNetworkRun wire size node steps vs →
+        IsNetworkRun wire size node counted vs }
+    ensures calls { (wire : Wire C C.Signature) (size : ℕ) (node : ℕ → Made C C.Signature) (n : ℕ)
+        (steps counted : Steps C C.Signature) →
+        AreCounted wire size node C.IsValue C.Signature.IsValue n steps counted → (i : ℕ) →
+        calls_at wire size node (done_by wire size node counted) i
+        ≡ calls_at wire size node (done_by wire size node steps) i }
 {}
 
 /// The laws of gossip of any number of nodes, by the replies to what is done to them from their
