@@ -13,3 +13,5 @@ pub mod Alike
 pub mod Addresses
 -- The law of whole sessions.
 pub mod Laws
+-- .. and that of sessions that are called in turn.
+pub mod Networks

@@ -15,6 +15,8 @@ ghost use Rattle.p2p_directory.specs.declared.node.received.Received.TheVariants
 ghost use Rattle.p2p_directory.specs.Run.{next, world_after};
 ghost use Rattle.p2p_directory.specs.declared.node.setup.Setup.{Setup};
 ghost use Rattle.p2p_directory.specs.Nodes.{NodeView, NodeStandsAt, made_of};
+ghost use Rattle.p2p_directory.specs.Network.{OfNetwork, StandAfter};
+ghost use Rattle.p2p_directory.specs.Laws.InTurn.{IsNetworkRun, not_refused};
 ghost use Rattle.p2p_session.specs.Schemes.{wire};
 ghost use Rattle.p2p_session.specs.Answers.{Tells, number, asked_bytes};
 ghost use Rattle.p2p_session.specs.Given.{IsInfoOfKeys};
@@ -23,6 +25,8 @@ ghost use Rattle.p2p_session.specs.Sessions.{IsFresh};
 ghost use Rattle.p2p_session.specs.Requests.{ServesRequest, AreSpelledOnce};
 ghost use Rattle.p2p_session.specs.Steps.{Step, Lead, AreRun};
 ghost use Rattle.p2p_session.specs.Laws.{Served, Goes, AreServed, IsRun};
+ghost use Rattle.p2p_session.specs.Networks.{SessionCall, AreCalled, judged_wire, network_steps};
+ghost use Rattle.p2p_session.specs.Networks.{LawsOfGossip};
 ghost use Rattle.p2p_session.specs.Refusals.{number_of};
 ghost use Rattle.p2p_session.specs.Alike.{AreAlike, IsWhole, IsHeldOf, TellsOfCall, TellsOfFrame};
 ghost use Rattle.p2p_session.specs.declared.refusal.Refusal.TheVariants.{Memory};
@@ -99,4 +103,28 @@ pub fn answers_decide_replies<C: PublicKey>()
     ensures memory_of_frames { (frame : List ℕ) (r : Received C C.Signature) (out out2 : List ℕ) →
         TellsOfFrame ⟦<C as Keys>⟧.scheme frame r out out2 (number_of Memory) → r ≡
         received.Memory }
+{}
+
+/// By a law of sessions, sessions that are called in turn are a network, in which any one predicate
+/// says which signatures are valid: their calls, their frames, and the frames that they ask with
+/// are a run of it. Other questions, and what was refused before the node was called, are left out,
+/// and so are calls for which memory was refused. The verification results with a frame have to be
+/// those of the predicate, for the infos that [`Session::call`](crate::Session::call) lists of it,
+/// up to the first invalid one. So the laws of gossip hold. docs/PROOFS.md has this below "Nodes
+/// and gossip".
+pub fn sessions_are_a_network<C: PublicKey>()
+    ensures run { (verifies : C → List ℕ → List ℕ → C.Signature → Bool)
+        (setups : List (Setup C C.Signature)) (calls : List (SessionCall C C.Signature))
+        (vs vs2 : List (NodeView C C.Signature)) →
+        let k = ⟦<C as Keys>⟧.scheme in let w = judged_wire k verifies in
+        OfNetwork C.cmp setups (λ size node. StandAfter w size node [] vs →
+        AreCalled k verifies calls vs vs2 →
+        IsNetworkRun w size node (not_refused (network_steps calls)) vs2) }
+    ensures laws { (verifies : C → List ℕ → List ℕ → C.Signature → Bool)
+        (setups : List (Setup C C.Signature)) (calls : List (SessionCall C C.Signature))
+        (vs vs2 : List (NodeView C C.Signature)) →
+        let k = ⟦<C as Keys>⟧.scheme in let w = judged_wire k verifies in
+        OfNetwork C.cmp setups (λ size node. StandAfter w size node [] vs →
+        AreCalled k verifies calls vs vs2 → LawsOfGossip w size node C.IsValue C.Signature.IsValue
+        (not_refused (network_steps calls))) }
 {}

@@ -1,0 +1,238 @@
+-- Sessions that are called in turn are a network.
+use Rattle.std.proofs.Common.{◌≡◌, ◌<◌, ℕ, length, Bool, true, List, [], ◌∷◌, Option, Some, None}
+use Rattle.std.proofs.Common.{Result, Ok, Err, refl, sym, ◌∙◌, ap, subst}
+use Rattle.std.specs.List.{cons_option}
+use Rattle.p2p_tracker.specs.Directory.{known_bits}
+use Rattle.std.specs.Prelude.{is_some, option_map, slice_get, slice_set, slice_index_or}
+use Rattle.std.specs.Cmp.{IsTotalOrder}
+use Rattle.std.specs.Duration.{as_nanos}
+use Rattle.std.specs.declared.cmp.Ordering.{Ordering}
+use Rattle.std.specs.declared.cmp.Ordering.TheVariants.{Equal}
+use Rattle.std.proofs.lemmas.List.{set-get_or}
+use Rattle.p2p_discovery.specs.declared.discovery.BitVec.{BitVec}
+use Rattle.p2p_discovery.specs.declared.discovery.Payload.TheVariants as said
+use Rattle.p2p_tracker.specs.Calls.{Call, SetAt}
+use Rattle.p2p_directory.specs.declared.node.network.commands.NetworkCommand.{NetworkCommand}
+use Rattle.p2p_directory.specs.declared.node.network.commands.NetworkCommand.TheVariants as command
+use Rattle.p2p_directory.specs.declared.node.network.commands.NetworkReply.{NetworkReply}
+use Rattle.p2p_directory.specs.declared.node.network.commands.NetworkReply.TheVariants as reply
+use Rattle.p2p_directory.specs.declared.node.received.Received.{Received}
+use Rattle.p2p_directory.specs.declared.node.setup.Setup.{Setup}
+use Rattle.p2p_directory.specs.declared.run.commands.Reply.{Reply}
+use Rattle.p2p_directory.specs.Nodes.{NodeView, standing_of, made_of, IsSteppedAt, AtEach, IsAsked}
+use Rattle.p2p_directory.specs.Nodes.{IsReceived, IsStepped, AsksWith, Made}
+use Rattle.p2p_directory.specs.Received.{Wire, verdicts_of}
+use Rattle.p2p_directory.specs.Network.{IsServedAmong, AsksAt, StandAfter, node_made}
+use Rattle.p2p_directory.specs.Laws.InTurn.{AreServedInTurn, Steps, IsNetworkRun, not_refused}
+use Rattle.p2p_directory.specs.Laws.Verdicts.{AreToldOf}
+use Rattle.p2p_directory.specs.Run.{call_of}
+use Rattle.p2p_directory.specs.Laws.Network as law
+use Rattle.p2p_directory.specs.Laws.Network.{AreMade}
+use Rattle.p2p_directory.specs.Laws.InTurn.{commands_of, replies_of}
+use Rattle.p2p_directory.specs.Network.{AreNetworkAnswers}
+use Rattle.p2p_discovery.specs.Fixed.{IsFixed}
+use Rattle.p2p_directory.proofs.Nodes.ReadBack.{wire_by}
+use Rattle.p2p_directory.proofs.LawsOfNetworks.Provenance
+use Rattle.p2p_directory.proofs.LawsOfNetworks.Exchanges
+use Rattle.p2p_directory.proofs.LawsOfNetworks.Frames
+use Rattle.p2p_directory.proofs.LawsOfNetworks.Replied
+use Rattle.p2p_directory.proofs.LawsOfNetworks.Laws
+use Rattle.p2p_directory.proofs.LawsOfGossip.FramesByVerdicts.{answers_over}
+use Rattle.p2p_directory.proofs.LawsOfNetworks.InTurn.{is_run}
+use Rattle.p2p_directory.proofs.Nodes.Worlds.{received_in, asked_in}
+use Rattle.p2p_session.specs.Schemes.{Scheme, wire}
+use Rattle.p2p_session.specs.Frames.{Hears}
+use Rattle.p2p_session.specs.Requests.{Request}
+use Rattle.p2p_session.specs.Requests.Request.{Looking}
+use Rattle.p2p_session.specs.Sessions.Look.{Wanted}
+use Rattle.p2p_session.specs.Steps.{Step, Leads}
+use Rattle.p2p_session.specs.Steps.Step.{Called, Heard, Looked}
+use Rattle.p2p_session.specs.Networks.{SessionCall, network_steps, judged_wire, AreVerdicts}
+use Rattle.p2p_session.specs.Networks.{IsInNetwork, AreCalled, LawsOfGossip}
+
+module _ {C S : Type 0} (k : Scheme C S) (verifies : C → List ℕ → List ℕ → S → Bool) where
+  abbrev over : Wire C S
+  over = judged_wire k verifies
+
+  abbrev Views : Type 0
+  Views = List (NodeView C S)
+
+  -- ---- one step
+
+  stepped : (v v2 : NodeView C S) (call call2 : Call C S) (r r2 : Reply C S) → call2 ≡ call →
+      r2 ≡ r → AtEach k.key.cmp v (λ m calls. IsSteppedAt m calls call r v2) →
+      AtEach k.key.cmp v (λ m calls. IsSteppedAt m calls call2 r2 v2)
+  stepped v v2 call call2 r r2 same same2 h = λ given calls at.
+      subst (λ c. IsSteppedAt (made_of k.key.cmp given) calls c r2 v2) (sym same)
+      (subst (λ q. IsSteppedAt (made_of k.key.cmp given) calls call q v2) (sym same2)
+      (h given calls at))
+
+  heard : (v v2 : NodeView C S) (frame : List ℕ) (now : ℕ) (verdicts : List Bool)
+      (r : Received C S) → Hears k verdicts frame now v v2 r →
+      AreToldOf verifies (wire k) (standing_of k.key.cmp (wire k) v) frame now verdicts →
+      IsReceived k.key.cmp over verdicts_of frame now r v v2
+  heard v v2 frame now verdicts r h told = λ given calls at.
+      received_in (made_of k.key.cmp given) over calls v at given.cfg.max_sets.ok verdicts_of frame
+      now r v2 (answers_over verifies (wire k) now verdicts k.key.cmp frame r v v2 told h.seen)
+
+  at_set : (sets : Option (SetAt C)) (f : SetAt C → BitVec) (g : BitVec → List ℕ) →
+      is_some (option_map g (option_map f sets)) ≡ true → is_some sets ≡ true
+  at_set None f g e = absurd (cc)
+  at_set (Some x) f g e = refl
+
+  -- ---- one call
+
+  -- what a call is to the network
+  abbrev One : Option (NetworkCommand C S × NetworkReply C S) → Views → Views → Type 0
+  One None vs vs2 = vs2 ≡ vs
+  One (Some x) vs vs2 = IsServedAmong k.key.cmp over x.0 x.1 vs vs2
+
+  module _ (i : ℕ) (vs vs2 : Views) (there : i < length vs) (node : NodeView C S)
+      (others : vs2 ≡ slice_set vs i node) where
+    abbrev before : NodeView C S → NodeView C S
+    before v = slice_index_or vs i v
+
+    unmoved : node ≡ before node → vs2 ≡ vs
+    unmoved e = others ∙ ap (λ u. slice_set vs i u) e ∙ set-get_or vs i node
+
+    is_there : (j : ℕ) → j ≡ i → j < length vs
+    is_there j same = subst (λ n. n < length vs) (sym same) there
+
+    are_others : (j : ℕ) → j ≡ i → vs2 ≡ slice_set vs j node
+    are_others j same = others ∙ ap (λ n. slice_set vs n node) (sym same)
+
+    abbrev Is : Option (Request C S) → Step C S →
+        Option (NetworkCommand C S × NetworkReply C S) → NodeView C S → Type 0
+    Is asked step o v = Leads k step (before v) node × AreVerdicts k verifies step (before v)
+        × IsInNetwork k verifies i asked step (before v) o
+
+    asks : (j place n : ℕ) → j ≡ i → place ≡ n → node ≡ before node →
+        (r : Result (Option (List ℕ)) (Unit {0})) →
+        ((v : NodeView C S) → AsksWith k.key.cmp over n r (before v)) →
+        AsksAt k.key.cmp over j place r vs vs2
+    asks j place n same same2 e r h = record {
+      there = is_there j same;
+      same = unmoved e;
+      asked = λ v. subst (λ j. IsAsked k.key.cmp over place r (slice_index_or vs j v)) (sym same)
+          (subst (λ p. IsAsked k.key.cmp over p r (before v)) (sym same2)
+          (λ given calls at.
+          asked_in (made_of k.key.cmp given) over calls (before v) at n r (h v)));
+    }
+
+    one : (asked : Option (Request C S)) (step : Step C S)
+        (o : Option (NetworkCommand C S × NetworkReply C S)) →
+        ((v : NodeView C S) → Is asked step o v) → One o vs vs2
+    one asked Looked None h = unmoved (h node).0
+    one asked (Called call r) (Some (command.Call j x, reply.Call r2)) h =
+        let is = (h node).2 in
+        record {
+          there = is_there j is.0;
+          node = node;
+          others = are_others j is.0;
+          stepped = λ v. subst (λ n. IsStepped k.key.cmp x r2 (slice_index_or vs n v) node)
+              (sym is.0) (stepped (before v) node call (call_of x) r r2 is.1 is.2 (h v).0.0);
+        }
+    one asked (Heard frame now verdicts r) (Some (command.Frame j bytes moment, reply.Frame r2)) h =
+        let is = (h node).2 in
+        record {
+          there = is_there j is.0;
+          node = node;
+          others = are_others j is.0;
+          received = λ v. subst (λ n. IsReceived k.key.cmp over verdicts_of bytes
+              (as_nanos moment) r2 (slice_index_or vs n v) node) (sym is.0)
+              (subst (λ f. IsReceived k.key.cmp over verdicts_of f (as_nanos moment) r2 (before v)
+              node) (sym is.1)
+              (subst (λ t. IsReceived k.key.cmp over verdicts_of frame t r2 (before v) node)
+              (sym is.2)
+              (subst (λ q. IsReceived k.key.cmp over verdicts_of frame now q (before v) node)
+              (sym is.3)
+              (heard (before v) node frame now verdicts r (h v).0 (h v).1))));
+        }
+    one (Some (Looking (Wanted n))) Looked (Some (command.Ask j place, reply.Ask frame)) h =
+        let is = (h node).2 in
+        asks j place n is.0 is.1 (h node).0 (Ok frame)
+        (λ v. record { frame = (h v).2.2; err = tt })
+    one (Some (Looking (Wanted n))) Looked (Some (command.Ask j place, reply.OutOfMemory)) h =
+        let is = (h node).2 in
+        asks j place n is.0 is.1 (h node).0 (Err tt)
+        (λ v. record {
+          frame = tt;
+          err = at_set (slice_get (before v).directory.sets n)
+              (λ set. record { index = set.index; bits = known_bits k.key.cmp (before v).directory set })
+              (λ x. (wire k).spelling (said.BitVec x)) (h v).2.2;
+        })
+    one asked step o h = absurd (h node).2
+
+  -- ---- all calls
+
+  turn : (o : Option (NetworkCommand C S × NetworkReply C S)) (rest : Steps C S)
+      (vs between vs2 : Views) → One o vs between →
+      AreServedInTurn k.key.cmp over rest between vs2 →
+      AreServedInTurn k.key.cmp over (cons_option o rest) vs vs2
+  turn None rest vs between vs2 same more =
+      subst (λ u. AreServedInTurn k.key.cmp over rest u vs2) same more
+  turn (Some x) rest vs between vs2 is more = (between, is, more)
+
+  pub are_served : (calls : List (SessionCall C S)) (vs vs2 : Views) →
+      AreCalled k verifies calls vs vs2 →
+      AreServedInTurn k.key.cmp over (network_steps calls) vs vs2
+  are_served [] vs vs2 h = h
+  are_served (x ∷ calls) vs vs2 h =
+      let it = h.1 in
+      turn x.in_network (network_steps calls) vs h.0 vs2
+      (one x.session vs h.0 it.there it.node it.others x.call.asked x.step x.in_network
+      (λ v. ((it.served v).leads, (it.served v).verdicts, (it.served v).in_network)))
+      (are_served calls h.0 vs2 h.2)
+
+  -- ---- from the start on
+
+  module _ (setups : List (Setup C S)) (other : Setup C S) where
+    abbrev size : ℕ
+    size = length setups
+
+    abbrev node : ℕ → Made C S
+    node = node_made k.key.cmp other setups
+
+    pub are_made : (wire : Wire C S) → AreMade wire size node k.key.cmp
+    are_made wire i there = record {
+      order = refl;
+      me = refl;
+      sets = (slice_index_or setups i other).cfg.max_sets.ok;
+    }
+
+    pub are_network : (calls : List (SessionCall C S)) (vs vs2 : Views) →
+        StandAfter over size node [] vs → AreCalled k verifies calls vs vs2 →
+        IsNetworkRun over size node (not_refused (network_steps calls)) vs2
+    are_network calls vs vs2 stand h = is_run k.key.cmp over setups other (network_steps calls) vs
+        vs2 stand (are_served calls vs vs2 h)
+
+-- ---- the laws of gossip
+
+module _ {C S : Type 0} {key_size signature_size : ℕ} {key : C → List ℕ} {signature : S → List ℕ}
+    {key_of : List ℕ → Option C} {signature_of : List ℕ → Option S}
+    {IsKey : C → Type 0} {IsSignature : S → Type 0} (k : IsFixed key_size key key_of IsKey)
+    (s : IsFixed signature_size signature signature_of IsSignature)
+    (verifies : C → List ℕ → List ℕ → S → Bool) (size : ℕ) (node : ℕ → Made C S)
+    (cmp : C → C → Ordering) (total : IsTotalOrder cmp)
+    (exact : (q p : C) → cmp q p ≡ Equal → q ≡ p) where
+  abbrev by : Wire C S
+  by = wire_by key_size key key_of signature_size signature signature_of verifies
+
+  pub laws_hold : (steps : Steps C S) → AreMade by size node cmp →
+      AreNetworkAnswers by size node [] (commands_of steps) (replies_of steps) →
+      LawsOfGossip by size node IsKey IsSignature steps
+  laws_hold steps made answers = record {
+    at_each_point = Laws.at_each_point by size node cmp made exact total (commands_of steps)
+        (replies_of steps) answers;
+    exchanges = Exchanges.keep_exchanges by size node cmp total exact made [] tt
+        (commands_of steps) (replies_of steps) answers;
+    others = Provenance.of_any_reply by size node (law.LeavesOtherNodes by size node)
+        (Provenance.leaves_others by size node) [] (commands_of steps) (replies_of steps);
+    late = Provenance.of_each_reply by size node _ (λ done answered. Frames.takes_frame k s verifies
+        size node cmp total exact made done) [] tt (commands_of steps) (replies_of steps) answers;
+    greetings = λ is_info is_keyed. Provenance.of_each_reply by size node
+        (law.TakesGreeting by size node) (λ done answered. Frames.takes_greeting k s verifies size
+        node cmp made is_info is_keyed done) [] tt (commands_of steps) (replies_of steps) answers;
+    replies = λ few written. Replied.keep_replies k s verifies size node cmp exact made few [] tt tt
+        (commands_of steps) (replies_of steps) answers written;
+  }
