@@ -16,7 +16,8 @@ ghost use Rattle.p2p_directory.specs.Run.{next, world_after};
 ghost use Rattle.p2p_directory.specs.declared.node.setup.Setup.{Setup};
 ghost use Rattle.p2p_directory.specs.Nodes.{NodeView, NodeStandsAt, made_of};
 ghost use Rattle.p2p_directory.specs.Network.{OfNetwork, StandAfter};
-ghost use Rattle.p2p_directory.specs.Laws.InTurn.{IsNetworkRun, not_refused};
+ghost use Rattle.p2p_directory.specs.Laws.InTurn.{IsNetworkRun, Steps, not_refused};
+ghost use Rattle.p2p_directory.specs.Laws.ExchangeFrames.{AreCounted};
 ghost use Rattle.p2p_session.specs.Schemes.{wire};
 ghost use Rattle.p2p_session.specs.Answers.{Tells, number, asked_bytes};
 ghost use Rattle.p2p_session.specs.Given.{IsInfoOfKeys};
@@ -110,8 +111,8 @@ pub fn answers_decide_replies<C: PublicKey>()
 /// are a run of it. Other questions, and what was refused before the node was called, are left out,
 /// and so are calls for which memory was refused. The verification results with a frame have to be
 /// those of the predicate, for the infos that [`Session::call`](crate::Session::call) lists of it,
-/// up to the first invalid one. So the laws of gossip hold. docs/PROOFS.md has this below "Nodes
-/// and gossip".
+/// up to the first invalid one. So the laws of gossip hold, and those of exchanges where the frames
+/// of some are counted as such. docs/PROOFS.md has this below "Nodes and gossip".
 pub fn sessions_are_a_network<C: PublicKey>()
     ensures run { (verifies : C → List ℕ → List ℕ → C.Signature → Bool)
         (setups : List (Setup C C.Signature)) (calls : List (SessionCall C C.Signature))
@@ -122,9 +123,10 @@ pub fn sessions_are_a_network<C: PublicKey>()
         IsNetworkRun w size node (not_refused (network_steps calls)) vs2) }
     ensures laws { (verifies : C → List ℕ → List ℕ → C.Signature → Bool)
         (setups : List (Setup C C.Signature)) (calls : List (SessionCall C C.Signature))
-        (vs vs2 : List (NodeView C C.Signature)) →
+        (vs vs2 : List (NodeView C C.Signature)) (n : ℕ) (counted : Steps C C.Signature) →
         let k = ⟦<C as Keys>⟧.scheme in let w = judged_wire k verifies in
         OfNetwork C.cmp setups (λ size node. StandAfter w size node [] vs →
-        AreCalled k verifies calls vs vs2 → LawsOfGossip w size node C.IsValue C.Signature.IsValue
-        (not_refused (network_steps calls))) }
+        AreCalled k verifies calls vs vs2 →
+        AreCounted w size node C.IsValue C.Signature.IsValue n (not_refused (network_steps calls))
+        counted → LawsOfGossip w size node C.IsValue C.Signature.IsValue counted) }
 {}

@@ -2,6 +2,8 @@ use Rattle.std.specs.Prelude.{length}
 use Rattle.p2p_directory.specs.Laws.InTurn.{not_refused}
 use Rattle.p2p_directory.specs.Network.{node_made}
 use Rattle.p2p_session.specs.Networks.{network_steps, judged_wire}
+use Rattle.p2p_directory.proofs.LawsOfNetworks.ExchangeFrames.{stays_run}
+use Rattle.p2p_directory.proofs.Nodes.Carried.{is_carried}
 use Rattle.p2p_session.specs.Schemes.{scheme_by}
 use Rattle.p2p_session.proofs.Networks.{are_network, are_made, laws_hold}
 use Rattle.p2p_session.proofs.laws.sessions_are_a_network.Goals as goal
@@ -12,11 +14,16 @@ returns-clause-run g c = λ verifies setups calls vs vs2 other.
     g.C.Signature.PartialEq g.C.Signature.FixedBytes) verifies setups other calls vs vs2
 
 pub returns-clause-laws : goal.returns-clause-laws
-returns-clause-laws g c = λ verifies setups calls vs vs2 other stand called.
+returns-clause-laws g c = λ verifies setups calls vs vs2 n counted other stand called are.
     let k = scheme_by g.C.PartialOrd g.C.Ord g.C.PartialEq g.C.FixedBytes g.C.PublicKey
     g.C.Signature.PartialEq g.C.Signature.FixedBytes in
-    laws_hold g.met.C.FixedBytes.fixed g.met.C.Signature.FixedBytes.fixed verifies (length setups)
-    (node_made g.C.Ord.cmp other setups) g.C.Ord.cmp g.met.C.Ord.total g.met.C.PublicKey.exact
-    (not_refused (network_steps calls))
-    (are_made k verifies setups other (judged_wire k verifies))
-    (are_network k verifies setups other calls vs vs2 stand called).answers
+    let w = judged_wire k verifies in
+    let size = length setups in
+    let node = node_made g.C.Ord.cmp other setups in
+    laws_hold g.met.C.FixedBytes.fixed g.met.C.Signature.FixedBytes.fixed verifies size node
+    g.C.Ord.cmp g.met.C.Ord.total g.met.C.PublicKey.exact counted
+    (are_made k verifies setups other w)
+    (stays_run w size node g.C.FixedBytes.IsValue g.C.Signature.FixedBytes.IsValue
+    (is_carried g.met.C.FixedBytes.fixed g.met.C.Signature.FixedBytes.fixed verifies) n
+    (not_refused (network_steps calls)) counted are vs2
+    (are_network k verifies setups other calls vs vs2 stand called)).answers
