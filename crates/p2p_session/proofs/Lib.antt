@@ -19,4 +19,6 @@ pub mod Looked
 pub mod Networks
 mod ShownSteps
 mod ShownAnswers
+mod ShownExchange
+mod ShownNetworks
 mod ShownSession

@@ -1,5 +1,6 @@
 -- Sessions that are called in turn are a network.
-use Rattle.std.proofs.Common.{◌≡◌, ◌<◌, ℕ, length, Bool, true, List, [], ◌∷◌, Option, Some, None}
+use Rattle.std.proofs.Common.{◌≡◌, ◌<◌, ℕ, length, Bool, true, false, List, [], ◌∷◌, Option, Some}
+use Rattle.std.proofs.Common.{None}
 use Rattle.std.proofs.Common.{Result, Ok, Err, refl, sym, ◌∙◌, ap, subst}
 use Rattle.std.specs.List.{cons_option}
 use Rattle.p2p_tracker.specs.Directory.{known_bits}
@@ -29,7 +30,12 @@ use Rattle.p2p_directory.specs.Run.{call_of}
 use Rattle.p2p_directory.specs.Laws.Network as law
 use Rattle.p2p_directory.specs.Laws.Network.{AreMade}
 use Rattle.p2p_directory.specs.Laws.InTurn.{commands_of, replies_of}
-use Rattle.p2p_directory.specs.Network.{AreNetworkAnswers}
+use Rattle.p2p_directory.specs.Network.{AreNetworkAnswers, IsNetworkAnswer, Done, standing_at}
+use Rattle.p2p_directory.specs.declared.node.exchanged.Exchanged.{Exchanged}
+use Rattle.p2p_directory.specs.declared.node.exchanged.Exchanged.TheVariants as exchanged
+use Rattle.p2p_directory.specs.Exchange.{ExchangeOutcome, IsExchangeAnswer, IsCarried}
+use Rattle.p2p_directory.specs.Exchange.{exchange_may_want_memory, exchanged_at}
+use Rattle.p2p_directory.proofs.Nodes.Carried.{is_carried}
 use Rattle.p2p_discovery.specs.Fixed.{IsFixed}
 use Rattle.p2p_directory.proofs.Nodes.ReadBack.{wire_by}
 use Rattle.p2p_directory.proofs.LawsOfNetworks.Provenance
@@ -49,6 +55,7 @@ use Rattle.p2p_session.specs.Steps.{Step, Leads}
 use Rattle.p2p_session.specs.Steps.Step.{Called, Heard, Looked}
 use Rattle.p2p_session.specs.Networks.{SessionCall, network_steps, judged_wire, AreVerdicts}
 use Rattle.p2p_session.specs.Networks.{IsInNetwork, AreCalled, LawsOfGossip}
+use Rattle.p2p_session.specs.Networks.{IsSpelledIn}
 
 module _ {C S : Type 0} (k : Scheme C S) (verifies : C → List ℕ → List ℕ → S → Bool) where
   abbrev over : Wire C S
@@ -158,7 +165,10 @@ module _ {C S : Type 0} (k : Scheme C S) (verifies : C → List ℕ → List ℕ
         (λ v. record {
           frame = tt;
           err = at_set (slice_get (before v).directory.sets n)
-              (λ set. record { index = set.index; bits = known_bits k.key.cmp (before v).directory set })
+              (λ set. record {
+                index = set.index;
+                bits = known_bits k.key.cmp (before v).directory set;
+              })
               (λ x. (wire k).spelling (said.BitVec x)) (h v).2.2;
         })
     one asked step o h = absurd (h node).2
@@ -208,6 +218,16 @@ module _ {C S : Type 0} (k : Scheme C S) (verifies : C → List ℕ → List ℕ
 
 -- ---- the laws of gossip
 
+comes_once : {C S : Type 0} (r : Exchanged C S) (may : Bool) (o o2 : ExchangeOutcome C S) →
+    IsExchangeAnswer false o r → IsExchangeAnswer may o2 r → o ≡ o2
+comes_once exchanged.Memory may o o2 h h2 = absurd (cc)
+comes_once _ may o o2 h h2 = h ∙ sym h2
+
+no_want : {C S : Type 0} (r : Exchanged C S) (o : ExchangeOutcome C S) →
+    IsExchangeAnswer false o r → ¬ (r ≡ exchanged.Memory)
+no_want exchanged.Memory o h = absurd (cc)
+no_want _ o h = λ e. cc
+
 module _ {C S : Type 0} {key_size signature_size : ℕ} {key : C → List ℕ} {signature : S → List ℕ}
     {key_of : List ℕ → Option C} {signature_of : List ℕ → Option S}
     {IsKey : C → Type 0} {IsSignature : S → Type 0} (k : IsFixed key_size key key_of IsKey)
@@ -217,6 +237,33 @@ module _ {C S : Type 0} {key_size signature_size : ℕ} {key : C → List ℕ} {
     (exact : (q p : C) → cmp q p ≡ Equal → q ≡ p) where
   abbrev by : Wire C S
   by = wire_by key_size key key_of signature_size signature signature_of verifies
+
+  abbrev Spelled : Done C S → NetworkCommand C S → NetworkReply C S → Type 0
+  Spelled = IsSpelledIn by size node IsKey IsSignature
+
+  is_carried_by : (done : Done C S) (c : NetworkCommand C S) (r : NetworkReply C S) →
+      IsNetworkAnswer by size node done c r → Spelled done c r →
+      law.CarriesExchange by size node done c r
+  is_carried_by done (command.Exchange asker replier place t t2) (reply.Exchange r) h can =
+      λ o answer.
+      let a = standing_at by size node done asker in
+      let b = standing_at by size node done replier in
+      subst (IsCarried by a b place (as_nanos t) (as_nanos t2))
+      (sym (comes_once r (exchange_may_want_memory a place) o
+      (exchanged_at a b place (as_nanos t) (as_nanos t2)) answer h.1))
+      (is_carried k s verifies a b place (as_nanos t) (as_nanos t2) (can (no_want r o answer)))
+  is_carried_by done c r h can = tt
+
+  are_carried : (done : Done C S) (cs : List (NetworkCommand C S)) (rs : List (NetworkReply C S)) →
+      AreNetworkAnswers by size node done cs rs →
+      law.OfEachReply by size node Spelled done cs rs →
+      law.OfEachReply by size node (law.CarriesExchange by size node) done cs rs
+  are_carried done [] rs h can = tt
+  are_carried done (c ∷ cs) [] h can = absurd h
+  are_carried done (c ∷ cs) (r ∷ rs) h can = (
+    is_carried_by done c r h.0 can.0,
+    are_carried ((c, r) ∷ done) cs rs h.1 can.1,
+  )
 
   pub laws_hold : (steps : Steps C S) → AreMade by size node cmp →
       AreNetworkAnswers by size node [] (commands_of steps) (replies_of steps) →
@@ -230,6 +277,7 @@ module _ {C S : Type 0} {key_size signature_size : ℕ} {key : C → List ℕ} {
         (Provenance.leaves_others by size node) [] (commands_of steps) (replies_of steps);
     late = Provenance.of_each_reply by size node _ (λ done answered. Frames.takes_frame k s verifies
         size node cmp total exact made done) [] tt (commands_of steps) (replies_of steps) answers;
+    carried = are_carried [] (commands_of steps) (replies_of steps) answers;
     greetings = λ is_info is_keyed. Provenance.of_each_reply by size node
         (law.TakesGreeting by size node) (λ done answered. Frames.takes_greeting k s verifies size
         node cmp made is_info is_keyed done) [] tt (commands_of steps) (replies_of steps) answers;

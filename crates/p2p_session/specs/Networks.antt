@@ -1,6 +1,7 @@
--- Sessions that are called in turn: nodes of a network, in which one predicate says which signatures
--- are right.
-use Rattle.std.specs.Prelude.{◌^◌, ◌≡◌, ◌<◌, ℕ, Bool, true, is_some, List, [], ◌∷◌, length, slice_set}
+-- Sessions that are called in turn: nodes of a network, in which one predicate says which
+-- signatures are right.
+use Rattle.std.specs.Prelude.{◌^◌, ◌≡◌, ◌<◌, ℕ, Bool, true, is_some, List, [], ◌∷◌, length}
+use Rattle.std.specs.Prelude.{slice_set}
 use Rattle.std.specs.Prelude.{slice_index_or, Option, Some, None}
 use Rattle.std.specs.List.{filter_map}
 use Rattle.std.specs.Duration.{as_nanos}
@@ -9,14 +10,16 @@ use Rattle.p2p_directory.specs.declared.node.network.commands.NetworkCommand.The
 use Rattle.p2p_directory.specs.declared.node.network.commands.NetworkReply.{NetworkReply}
 use Rattle.p2p_directory.specs.declared.node.network.commands.NetworkReply.TheVariants as reply
 use Rattle.p2p_discovery.specs.Info.{IsInfo, IsKeyed}
-use Rattle.p2p_directory.specs.Network.{Done, is_node}
+use Rattle.p2p_directory.specs.declared.node.exchanged.Exchanged.TheVariants as exchanged
+use Rattle.p2p_directory.specs.Exchange.{CanBeSpelled}
+use Rattle.p2p_directory.specs.Network.{Done, is_node, standing_at}
 use Rattle.p2p_directory.specs.Nodes.{NodeView, Made, standing_of}
 use Rattle.p2p_directory.specs.Received.{Wire, ask_frame_at}
 use Rattle.p2p_directory.specs.Run.{call_of}
 use Rattle.p2p_directory.specs.Laws.InTurn.{Steps}
 use Rattle.p2p_directory.specs.Laws.Network.{AtEachPoint, OfEachReply, PointLaws, BringsWanted}
 use Rattle.p2p_directory.specs.Laws.Network.{TakesFrame, LeavesOtherNodes, TakesGreeting}
-use Rattle.p2p_directory.specs.Laws.Network.{AreWritten, RepliesInfos}
+use Rattle.p2p_directory.specs.Laws.Network.{AreWritten, RepliesInfos, CarriesExchange}
 use Rattle.p2p_directory.specs.Laws.InTurn.{commands_of, replies_of}
 use Rattle.p2p_directory.specs.Laws.Verdicts.{AreToldOf, wire_with}
 use Rattle.p2p_session.specs.Schemes.{Scheme, wire}
@@ -93,24 +96,37 @@ module _ {C S : Type 0} (k : Scheme C S) (verifies : C → List ℕ → List ℕ
 -- ---- what holds of a run of a network, by these keys and signatures
 
 module _ {C S : Type 0} (wire : Wire C S) (size : ℕ) (node : ℕ → Made C S) (IsKey : C → Type 0)
-    (IsSignature : S → Type 0) (steps : Steps C S) where
-  -- at each point
-  abbrev pub HoldsOfEach : (Done C S → NetworkCommand C S → NetworkReply C S → Type 0) → Type 0
-  HoldsOfEach P = OfEachReply wire size node P [] (commands_of steps) (replies_of steps)
+    (IsSignature : S → Type 0) where
+  -- what is told in an exchange has a spelling, unless memory was refused
+  abbrev pub IsSpelledIn : Done C S → NetworkCommand C S → NetworkReply C S → Type 0
+  IsSpelledIn done (command.Exchange asker replier place s t) (reply.Exchange r) =
+      ¬ (r ≡ exchanged.Memory) →
+      CanBeSpelled IsKey IsSignature (standing_at wire size node done asker)
+      (standing_at wire size node done replier) place (as_nanos t)
+  IsSpelledIn done _ _ = Unit {0}
 
-  -- the laws of gossip
-  pub record LawsOfGossip : Type 0 where
-    pub at_each_point : AtEachPoint wire size node (PointLaws wire size node) []
-        (commands_of steps) (replies_of steps)
-    pub exchanges : HoldsOfEach (BringsWanted wire size node)
-    pub others : HoldsOfEach (LeavesOtherNodes wire size node)
-    pub late : HoldsOfEach (TakesFrame wire size node IsKey IsSignature)
-    -- where all own infos are infos of these keys and signatures
-    pub greetings : ((i : ℕ) → is_node wire size node i ≡ true → IsInfo (node i).directory.own) →
-        ((i : ℕ) → is_node wire size node i ≡ true →
-        IsKeyed IsKey IsSignature (node i).directory.own) →
-        HoldsOfEach (TakesGreeting wire size node)
-    -- where what is told has a spelling, and so has the greatest number of bits
-    pub replies : ((i : ℕ) → is_node wire size node i ≡ true → (node i).limits.max_bit_vec < 2 ^ 32) →
-        AreWritten wire size node IsKey IsSignature [] (commands_of steps) (replies_of steps) →
-        HoldsOfEach (RepliesInfos wire size node IsKey IsSignature)
+  module _ (steps : Steps C S) where
+    -- P holds of each reply
+    abbrev pub HoldsOfEach : (Done C S → NetworkCommand C S → NetworkReply C S → Type 0) → Type 0
+    HoldsOfEach P = OfEachReply wire size node P [] (commands_of steps) (replies_of steps)
+
+    -- the laws of gossip
+    pub record LawsOfGossip : Type 0 where
+      pub at_each_point : AtEachPoint wire size node (PointLaws wire size node) []
+          (commands_of steps) (replies_of steps)
+      pub exchanges : HoldsOfEach (BringsWanted wire size node)
+      pub others : HoldsOfEach (LeavesOtherNodes wire size node)
+      pub late : HoldsOfEach (TakesFrame wire size node IsKey IsSignature)
+      -- where what is told in exchanges has a spelling
+      pub carried : HoldsOfEach IsSpelledIn → HoldsOfEach (CarriesExchange wire size node)
+      -- where all own infos are infos of these keys and signatures
+      pub greetings :
+          ((i : ℕ) → is_node wire size node i ≡ true → IsInfo (node i).directory.own) →
+          ((i : ℕ) → is_node wire size node i ≡ true →
+          IsKeyed IsKey IsSignature (node i).directory.own) →
+          HoldsOfEach (TakesGreeting wire size node)
+      -- where what is told has a spelling, and so has the greatest number of bits
+      pub replies :
+          ((i : ℕ) → is_node wire size node i ≡ true → (node i).limits.max_bit_vec < 2 ^ 32) →
+          AreWritten wire size node IsKey IsSignature [] (commands_of steps) (replies_of steps) →
+          HoldsOfEach (RepliesInfos wire size node IsKey IsSignature)
