@@ -19,6 +19,6 @@ pub mod Looked
 pub mod Networks
 mod ShownSteps
 mod ShownAnswers
-mod ShownExchange
-mod ShownNetworks
 mod ShownSession
+mod ShownNetworks
+mod ShownExchange

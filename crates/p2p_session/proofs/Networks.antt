@@ -1,6 +1,6 @@
 -- Sessions that are called in turn are a network.
 use Rattle.std.proofs.Common.{◌≡◌, ◌<◌, ℕ, length, Bool, true, false, List, [], ◌∷◌, Option, Some}
-use Rattle.std.proofs.Common.{None}
+use Rattle.std.proofs.Common.{None, zero, suc, arith}
 use Rattle.std.proofs.Common.{Result, Ok, Err, refl, sym, ◌∙◌, ap, subst}
 use Rattle.std.specs.List.{cons_option}
 use Rattle.p2p_tracker.specs.Directory.{known_bits}
@@ -23,7 +23,7 @@ use Rattle.p2p_directory.specs.declared.run.commands.Reply.{Reply}
 use Rattle.p2p_directory.specs.Nodes.{NodeView, standing_of, made_of, IsSteppedAt, AtEach, IsAsked}
 use Rattle.p2p_directory.specs.Nodes.{IsReceived, IsStepped, AsksWith, Made}
 use Rattle.p2p_directory.specs.Received.{Wire, verdicts_of}
-use Rattle.p2p_directory.specs.Network.{IsServedAmong, AsksAt, StandAfter, node_made}
+use Rattle.p2p_directory.specs.Network.{IsServedAmong, AsksAt, node_made}
 use Rattle.p2p_directory.specs.Laws.InTurn.{AreServedInTurn, Steps, IsNetworkRun, not_refused}
 use Rattle.p2p_directory.specs.Laws.Verdicts.{AreToldOf}
 use Rattle.p2p_directory.specs.Run.{call_of}
@@ -48,6 +48,8 @@ use Rattle.p2p_directory.proofs.LawsOfNetworks.InTurn.{is_run}
 use Rattle.p2p_directory.proofs.Nodes.Worlds.{received_in, asked_in}
 use Rattle.p2p_session.specs.Schemes.{Scheme, wire}
 use Rattle.p2p_session.specs.Frames.{Hears}
+use Rattle.p2p_session.specs.Laws.{Served}
+use Rattle.p2p_directory.specs.Nodes.{NodeStandsAt}
 use Rattle.p2p_session.specs.Requests.{Request}
 use Rattle.p2p_session.specs.Requests.Request.{Looking}
 use Rattle.p2p_session.specs.Sessions.Look.{Wanted}
@@ -56,6 +58,7 @@ use Rattle.p2p_session.specs.Steps.Step.{Called, Heard, Looked}
 use Rattle.p2p_session.specs.Networks.{SessionCall, network_steps, judged_wire, AreVerdicts}
 use Rattle.p2p_session.specs.Networks.{IsInNetwork, AreCalled, LawsOfGossip}
 use Rattle.p2p_session.specs.Networks.{IsSpelledIn}
+use Rattle.p2p_session.specs.Networks.{AreInit}
 
 module _ {C S : Type 0} (k : Scheme C S) (verifies : C → List ℕ → List ℕ → S → Bool) where
   abbrev over : Wire C S
@@ -94,13 +97,12 @@ module _ {C S : Type 0} (k : Scheme C S) (verifies : C → List ℕ → List ℕ
   One None vs vs2 = vs2 ≡ vs
   One (Some x) vs vs2 = IsServedAmong k.key.cmp over x.0 x.1 vs vs2
 
-  module _ (i : ℕ) (vs vs2 : Views) (there : i < length vs) (node : NodeView C S)
+  module _ (i : ℕ) (vs vs2 : Views) (there : i < length vs) (before node : NodeView C S)
+      (is_before : (v : NodeView C S) → slice_index_or vs i v ≡ before)
       (others : vs2 ≡ slice_set vs i node) where
-    abbrev before : NodeView C S → NodeView C S
-    before v = slice_index_or vs i v
-
-    unmoved : node ≡ before node → vs2 ≡ vs
-    unmoved e = others ∙ ap (λ u. slice_set vs i u) e ∙ set-get_or vs i node
+    unmoved : node ≡ before → vs2 ≡ vs
+    unmoved e = others ∙ ap (λ u. slice_set vs i u) (e ∙ sym (is_before node))
+        ∙ set-get_or vs i node
 
     is_there : (j : ℕ) → j ≡ i → j < length vs
     is_there j same = subst (λ n. n < length vs) (sym same) there
@@ -108,70 +110,61 @@ module _ {C S : Type 0} (k : Scheme C S) (verifies : C → List ℕ → List ℕ
     are_others : (j : ℕ) → j ≡ i → vs2 ≡ slice_set vs j node
     are_others j same = others ∙ ap (λ n. slice_set vs n node) (sym same)
 
-    abbrev Is : Option (Request C S) → Step C S →
-        Option (NetworkCommand C S × NetworkReply C S) → NodeView C S → Type 0
-    Is asked step o v = Leads k step (before v) node × AreVerdicts k verifies step (before v)
-        × IsInNetwork k verifies i asked step (before v) o
+    was : (j : ℕ) → j ≡ i → (v : NodeView C S) → before ≡ slice_index_or vs j v
+    was j same v = sym (is_before v) ∙ ap (λ n. slice_index_or vs n v) (sym same)
 
-    asks : (j place n : ℕ) → j ≡ i → place ≡ n → node ≡ before node →
-        (r : Result (Option (List ℕ)) (Unit {0})) →
-        ((v : NodeView C S) → AsksWith k.key.cmp over n r (before v)) →
+    asks : (j place n : ℕ) → j ≡ i → place ≡ n → node ≡ before →
+        (r : Result (Option (List ℕ)) (Unit {0})) → AsksWith k.key.cmp over n r before →
         AsksAt k.key.cmp over j place r vs vs2
     asks j place n same same2 e r h = record {
       there = is_there j same;
       same = unmoved e;
-      asked = λ v. subst (λ j. IsAsked k.key.cmp over place r (slice_index_or vs j v)) (sym same)
-          (subst (λ p. IsAsked k.key.cmp over p r (before v)) (sym same2)
+      asked = λ v. subst (IsAsked k.key.cmp over place r) (was j same v)
+          (subst (λ p. IsAsked k.key.cmp over p r before) (sym same2)
           (λ given calls at.
-          asked_in (made_of k.key.cmp given) over calls (before v) at n r (h v)));
+          asked_in (made_of k.key.cmp given) over calls before at n r h));
     }
 
     one : (asked : Option (Request C S)) (step : Step C S)
-        (o : Option (NetworkCommand C S × NetworkReply C S)) →
-        ((v : NodeView C S) → Is asked step o v) → One o vs vs2
-    one asked Looked None h = unmoved (h node).0
-    one asked (Called call r) (Some (command.Call j x, reply.Call r2)) h =
-        let is = (h node).2 in
-        record {
+        (o : Option (NetworkCommand C S × NetworkReply C S)) → Leads k step before node →
+        AreVerdicts k verifies step before → IsInNetwork k verifies i asked step before o →
+        One o vs vs2
+    one asked Looked None leads told is = unmoved leads
+    one asked (Called call r) (Some (command.Call j x, reply.Call r2)) leads told is = record {
+      there = is_there j is.0;
+      node = node;
+      others = are_others j is.0;
+      stepped = λ v. subst (λ u. IsStepped k.key.cmp x r2 u node) (was j is.0 v)
+          (stepped before node call (call_of x) r r2 is.1 is.2 leads.0);
+    }
+    one asked (Heard frame now verdicts r) (Some (command.Frame j bytes moment, reply.Frame r2))
+        leads told is = record {
           there = is_there j is.0;
           node = node;
           others = are_others j is.0;
-          stepped = λ v. subst (λ n. IsStepped k.key.cmp x r2 (slice_index_or vs n v) node)
-              (sym is.0) (stepped (before v) node call (call_of x) r r2 is.1 is.2 (h v).0.0);
-        }
-    one asked (Heard frame now verdicts r) (Some (command.Frame j bytes moment, reply.Frame r2)) h =
-        let is = (h node).2 in
-        record {
-          there = is_there j is.0;
-          node = node;
-          others = are_others j is.0;
-          received = λ v. subst (λ n. IsReceived k.key.cmp over verdicts_of bytes
-              (as_nanos moment) r2 (slice_index_or vs n v) node) (sym is.0)
-              (subst (λ f. IsReceived k.key.cmp over verdicts_of f (as_nanos moment) r2 (before v)
+          received = λ v. subst (λ u. IsReceived k.key.cmp over verdicts_of bytes
+              (as_nanos moment) r2 u node) (was j is.0 v)
+              (subst (λ f. IsReceived k.key.cmp over verdicts_of f (as_nanos moment) r2 before
               node) (sym is.1)
-              (subst (λ t. IsReceived k.key.cmp over verdicts_of frame t r2 (before v) node)
+              (subst (λ t. IsReceived k.key.cmp over verdicts_of frame t r2 before node)
               (sym is.2)
-              (subst (λ q. IsReceived k.key.cmp over verdicts_of frame now q (before v) node)
+              (subst (λ q. IsReceived k.key.cmp over verdicts_of frame now q before node)
               (sym is.3)
-              (heard (before v) node frame now verdicts r (h v).0 (h v).1))));
+              (heard before node frame now verdicts r leads told))));
         }
-    one (Some (Looking (Wanted n))) Looked (Some (command.Ask j place, reply.Ask frame)) h =
-        let is = (h node).2 in
-        asks j place n is.0 is.1 (h node).0 (Ok frame)
-        (λ v. record { frame = (h v).2.2; err = tt })
-    one (Some (Looking (Wanted n))) Looked (Some (command.Ask j place, reply.OutOfMemory)) h =
-        let is = (h node).2 in
-        asks j place n is.0 is.1 (h node).0 (Err tt)
-        (λ v. record {
+    one (Some (Looking (Wanted n))) Looked (Some (command.Ask j place, reply.Ask frame)) leads told
+        is = asks j place n is.0 is.1 leads (Ok frame) (record { frame = is.2; err = tt })
+    one (Some (Looking (Wanted n))) Looked (Some (command.Ask j place, reply.OutOfMemory)) leads
+        told is = asks j place n is.0 is.1 leads (Err tt) (record {
           frame = tt;
-          err = at_set (slice_get (before v).directory.sets n)
+          err = at_set (slice_get before.directory.sets n)
               (λ set. record {
                 index = set.index;
-                bits = known_bits k.key.cmp (before v).directory set;
+                bits = known_bits k.key.cmp before.directory set;
               })
-              (λ x. (wire k).spelling (said.BitVec x)) (h v).2.2;
+              (λ x. (wire k).spelling (said.BitVec x)) is.2;
         })
-    one asked step o h = absurd (h node).2
+    one asked step o leads told is = absurd is
 
   -- ---- all calls
 
@@ -190,11 +183,28 @@ module _ {C S : Type 0} (k : Scheme C S) (verifies : C → List ℕ → List ℕ
   are_served (x ∷ calls) vs vs2 h =
       let it = h.1 in
       turn x.in_network (network_steps calls) vs h.0 vs2
-      (one x.session vs h.0 it.there it.node it.others x.call.asked x.step x.in_network
-      (λ v. ((it.served v).leads, (it.served v).verdicts, (it.served v).in_network)))
+      (one x.session vs h.0 it.there it.before it.node it.is_before it.others x.call.asked
+      it.served.goes.0 x.in_network it.served.goes.2 it.served.verdicts it.served.in_network)
       (are_served calls h.0 vs2 h.2)
 
   -- ---- from the start on
+
+  as_many : (inits : List (Served C S)) (setups : List (Setup C S)) (vs : Views) →
+      AreInit k inits setups vs → length vs ≡ length setups
+  as_many [] [] [] h = refl
+  as_many (call ∷ inits) (given ∷ setups) (v ∷ vs) h =
+      ap (λ n. suc n) (as_many inits setups vs h.1)
+  as_many _ _ _ h = absurd h
+
+  made_each : (other : Setup C S) (inits : List (Served C S)) (setups : List (Setup C S))
+      (vs : Views) → AreInit k inits setups vs → (i : ℕ) (v : NodeView C S) →
+      i < length setups →
+      NodeStandsAt (made_of k.key.cmp (slice_index_or setups i other)) [] (slice_index_or vs i v)
+  made_each other [] [] [] h i v lt = absurd (omega (arith, lt))
+  made_each other (call ∷ inits) (given ∷ setups) (u ∷ vs) h zero v lt = h.0.1
+  made_each other (call ∷ inits) (given ∷ setups) (u ∷ vs) h (suc i) v lt =
+      made_each other inits setups vs h.1 i v (omega (arith, lt))
+  made_each other _ _ _ h i v lt = absurd h
 
   module _ (setups : List (Setup C S)) (other : Setup C S) where
     abbrev size : ℕ
@@ -210,11 +220,13 @@ module _ {C S : Type 0} (k : Scheme C S) (verifies : C → List ℕ → List ℕ
       sets = (slice_index_or setups i other).cfg.max_sets.ok;
     }
 
-    pub are_network : (calls : List (SessionCall C S)) (vs vs2 : Views) →
-        StandAfter over size node [] vs → AreCalled k verifies calls vs vs2 →
+    pub are_network : (inits : List (Served C S)) (calls : List (SessionCall C S))
+        (vs vs2 : Views) → AreInit k inits setups vs → AreCalled k verifies calls vs vs2 →
         IsNetworkRun over size node (not_refused (network_steps calls)) vs2
-    are_network calls vs vs2 stand h = is_run k.key.cmp over setups other (network_steps calls) vs
-        vs2 stand (are_served calls vs vs2 h)
+    are_network inits calls vs vs2 made h = is_run k.key.cmp over setups other
+        (network_steps calls) vs vs2
+        (record { count = as_many inits setups vs made; each = made_each other inits setups vs made })
+        (are_served calls vs vs2 h)
 
 -- ---- the laws of gossip
 

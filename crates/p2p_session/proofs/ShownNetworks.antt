@@ -1,8 +1,8 @@
 -- A session that is called is a network of one: it hears a greeting whose signature is right by the
 -- predicate, and is looked at. With a verdict that isn't the predicate's it isn't one.
-use Rattle.std.proofs.Common.{◌≡◌, ℕ, zero, suc, ◌<◌, ◌+◌, Bool, true, false, List, [], ◌∷◌, Some}
+use Rattle.std.proofs.Common.{◌≡◌, ℕ, ◌+◌, Bool, true, false, List, [], ◌∷◌, Some}
 use Rattle.std.proofs.Common.{None, inl, inr, refl, arith}
-use Rattle.std.specs.Prelude.{◌==◌, slice_index_or}
+use Rattle.std.specs.Prelude.{◌==◌}
 use Rattle.std.specs.Ordering.{nat_cmp}
 use Rattle.std.specs.declared.time.Duration.{Duration}
 use Rattle.p2p_discovery.specs.Payload.{body_at, payload_at}
@@ -19,9 +19,10 @@ use Rattle.p2p_directory.specs.declared.node.network.commands.NetworkCommand.The
 use Rattle.p2p_directory.specs.declared.node.network.commands.NetworkReply.TheVariants as reply
 use Rattle.p2p_directory.specs.declared.node.received.Received.TheVariants as received
 use Rattle.p2p_directory.specs.declared.node.setup.Setup.{Setup}
-use Rattle.p2p_directory.specs.Network.{StandAfter, node_made}
-use Rattle.p2p_directory.specs.Nodes.{NodeView, NodeStandsAt, made_of}
+use Rattle.p2p_directory.specs.Network.{node_made}
+use Rattle.p2p_directory.specs.Nodes.{NodeStandsAt, made_of}
 use Rattle.p2p_directory.specs.Laws.InTurn.{IsNetworkRun}
+use Rattle.p2p_session.specs.Laws.{Served, IsInit}
 use Rattle.p2p_session.specs.Networks.{SessionCall, AreCalled, AreVerdicts, judged_wire}
 use Rattle.p2p_session.specs.Networks.{network_steps}
 use Rattle.p2p_session.specs.Requests.Request.{Frame, Looking}
@@ -46,7 +47,6 @@ hears = record {
     out2 = 1 ∷ 1 ∷ 0 ∷ 0 ∷ 0 ∷ 0 ∷ 0 ∷ 0 ∷ 0 ∷ [];
     n = 2;
   };
-  step = Heard greeting (sec 100) (true ∷ []) (received.Greeted 1);
   in_network = Some (command.Frame 0 greeting hundred, reply.Frame (received.Greeted 1));
 }
 
@@ -54,7 +54,6 @@ abbrev looks : SessionCall ℕ ℕ
 looks = record {
   session = 0;
   call = record { asked = Some (Looking Room); out = []; out2 = []; n = 0 };
-  step = Looked;
   in_network = None;
 }
 
@@ -74,15 +73,20 @@ are_called = (
   v ∷ [],
   record {
     there = omega arith;
-    is_step = record {
-      asked_for = inr (sec 100, refl, (received.Greeted 1, refl));
-      told = inl (record { count = refl; room = refl });
-    };
+    before = v;
+    is_before = λ u. refl;
     node = v;
     others = refl;
-    served = λ u. record {
-      leads = leads_on_by_frame;
-      shown = tt;
+    served = record {
+      goes = (
+        Heard greeting (sec 100) (true ∷ []) (received.Greeted 1),
+        record {
+          asked_for = inr (sec 100, refl, (received.Greeted 1, refl));
+          told = inl (record { count = refl; room = refl });
+        },
+        leads_on_by_frame,
+        tt,
+      );
       verdicts = verdicts_are;
       in_network = (refl, refl, refl, refl);
     };
@@ -91,12 +95,12 @@ are_called = (
     v ∷ [],
     record {
       there = omega arith;
-      is_step = record { asked_for = refl; told = inl tt };
+      before = v;
+      is_before = λ u. refl;
       node = v;
       others = refl;
-      served = λ u. record {
-        leads = refl;
-        shown = (refl, refl);
+      served = record {
+        goes = (Looked, record { asked_for = refl; told = inl tt }, refl, (refl, refl));
         verdicts = tt;
         in_network = tt;
       };
@@ -105,17 +109,10 @@ are_called = (
   ),
 )
 
--- whatever this node was made from
-module _ (given other : Setup ℕ ℕ) (stands : NodeStandsAt (made_of nat_cmp given) [] v) where
-  stand : StandAfter (judged_wire k right) 1 (node_made nat_cmp other (given ∷ [])) [] (v ∷ [])
-  stand = record { count = refl; each = each }
-    where
-      each : (i : ℕ) (u : NodeView ℕ ℕ) → i < 1 →
-          NodeStandsAt (node_made nat_cmp other (given ∷ []) i) [] (slice_index_or (v ∷ []) i u)
-      each zero u lt = stands
-      each (suc i) u lt = absurd (omega (arith, lt))
-
+-- whatever this node was made from by `init`
+module _ (init : Served ℕ ℕ) (given other : Setup ℕ ℕ) (inits : IsInit k init given)
+    (stands : NodeStandsAt (made_of nat_cmp given) [] v) where
   run : IsNetworkRun (judged_wire k right) 1 (node_made nat_cmp other (given ∷ []))
       (network_steps (hears ∷ looks ∷ [])) (v ∷ [])
-  run = are_network k right (given ∷ []) other (hears ∷ looks ∷ []) (v ∷ []) (v ∷ []) stand
-      are_called
+  run = are_network k right (given ∷ []) other (init ∷ []) (hears ∷ looks ∷ []) (v ∷ []) (v ∷ [])
+      ((inits, stands), tt) are_called

@@ -13,7 +13,8 @@ use Rattle.p2p_discovery.specs.Info.{IsInfo, IsKeyed}
 use Rattle.p2p_directory.specs.declared.node.exchanged.Exchanged.TheVariants as exchanged
 use Rattle.p2p_directory.specs.Exchange.{CanBeSpelled}
 use Rattle.p2p_directory.specs.Network.{Done, is_node, standing_at}
-use Rattle.p2p_directory.specs.Nodes.{NodeView, Made, standing_of}
+use Rattle.p2p_directory.specs.declared.node.setup.Setup.{Setup}
+use Rattle.p2p_directory.specs.Nodes.{NodeView, Made, NodeStandsAt, standing_of, made_of}
 use Rattle.p2p_directory.specs.Received.{Wire, ask_frame_at}
 use Rattle.p2p_directory.specs.Run.{call_of}
 use Rattle.p2p_directory.specs.Laws.InTurn.{Steps}
@@ -26,21 +27,27 @@ use Rattle.p2p_session.specs.Schemes.{Scheme, wire}
 use Rattle.p2p_session.specs.Requests.{Request}
 use Rattle.p2p_session.specs.Requests.Request.{Looking}
 use Rattle.p2p_session.specs.Sessions.Look.{Wanted}
-use Rattle.p2p_session.specs.Steps.{Step, Leads}
+use Rattle.p2p_session.specs.Steps.{Step}
 use Rattle.p2p_session.specs.Steps.Step.{Called, Heard, Looked}
-use Rattle.p2p_session.specs.Laws.{Served, IsStep, IsShown}
+use Rattle.p2p_session.specs.Laws.{Served, IsInit, Goes}
 
--- a call of one of the sessions, the step of its node that it is, and what this is to a network, if
--- it is something
+-- a call of one of the sessions, and what it is to a network, if it is something
 pub record SessionCall (C S : Type 0) : Type 0 where
   pub session : ℕ
   pub call : Served C S
-  pub step : Step C S
   pub in_network : Option (NetworkCommand C S × NetworkReply C S)
 
 -- what all of them are to it, in order
 abbrev pub network_steps : {C S : Type 0} → List (SessionCall C S) → Steps C S
 network_steps calls = filter_map (λ x. x.in_network) calls
+
+module _ {C S : Type 0} (k : Scheme C S) where
+  -- each session was made by `init`, of one of these setups, in their order
+  abbrev pub AreInit : List (Served C S) → List (Setup C S) → List (NodeView C S) → Type 0
+  AreInit [] [] [] = Unit {0}
+  AreInit (call ∷ calls) (given ∷ setups) (v ∷ vs) =
+      (IsInit k call given × NodeStandsAt (made_of k.key.cmp given) [] v) × AreInit calls setups vs
+  AreInit _ _ _ = ⊥
 
 module _ {C S : Type 0} (k : Scheme C S) (verifies : C → List ℕ → List ℕ → S → Bool) where
   -- the signatures that are right by the predicate
@@ -72,22 +79,22 @@ module _ {C S : Type 0} (k : Scheme C S) (verifies : C → List ℕ → List ℕ
   IsInNetwork i asked Looked v None = Unit {0}
   IsInNetwork i asked step v x = ⊥
 
+  -- the call leads from one to the other by a step, which is this to the network
   pub record IsServedBy (x : SessionCall C S) (v v2 : NodeView C S) : Type 0 where
-    pub leads : Leads k x.step v v2
-    pub shown : IsShown k x.call.asked x.call.out x.call.out2 x.call.n v
-    pub verdicts : AreVerdicts x.step v
-    pub in_network : IsInNetwork x.session x.call.asked x.step v x.in_network
+    pub goes : Goes k x.call (Some v) (Some v2)
+    pub verdicts : AreVerdicts goes.0 v
+    pub in_network : IsInNetwork x.session x.call.asked goes.0 v x.in_network
 
-  -- the call is the step, which leads the node of its session; all others stay
+  -- .. so it leads the node of its session, and all others stay
   pub record IsCalled (x : SessionCall C S) (vs vs2 : List (NodeView C S)) : Type 0 where
     pub there : x.session < length vs
-    pub is_step : IsStep k x.call x.step
+    pub before : NodeView C S
+    pub is_before : (v : NodeView C S) → slice_index_or vs x.session v ≡ before
     pub node : NodeView C S
     pub others : vs2 ≡ slice_set vs x.session node
-    pub served : (v : NodeView C S) → IsServedBy x (slice_index_or vs x.session v) node
+    pub served : IsServedBy x before node
 
-  -- ---- all calls, the oldest first
-
+  -- the sessions were called so, one call after the other, the oldest first
   abbrev pub AreCalled : List (SessionCall C S) → List (NodeView C S) → List (NodeView C S) → Type 0
   AreCalled [] vs vs2 = vs2 ≡ vs
   AreCalled (x ∷ calls) vs vs2 =

@@ -15,7 +15,7 @@ ghost use Rattle.p2p_directory.specs.declared.node.received.Received.TheVariants
 ghost use Rattle.p2p_directory.specs.Run.{next, world_after};
 ghost use Rattle.p2p_directory.specs.declared.node.setup.Setup.{Setup};
 ghost use Rattle.p2p_directory.specs.Nodes.{NodeView, NodeStandsAt, made_of};
-ghost use Rattle.p2p_directory.specs.Network.{OfNetwork, StandAfter};
+ghost use Rattle.p2p_directory.specs.Network.{OfNetwork};
 ghost use Rattle.p2p_directory.specs.Laws.InTurn.{IsNetworkRun, Steps, not_refused};
 ghost use Rattle.p2p_directory.specs.Laws.ExchangeFrames.{AreCounted};
 ghost use Rattle.p2p_session.specs.Schemes.{wire};
@@ -26,7 +26,8 @@ ghost use Rattle.p2p_session.specs.Sessions.{IsFresh};
 ghost use Rattle.p2p_session.specs.Requests.{ServesRequest, AreSpelledOnce};
 ghost use Rattle.p2p_session.specs.Steps.{Step, Lead, AreRun};
 ghost use Rattle.p2p_session.specs.Laws.{Served, Goes, AreServed, IsRun};
-ghost use Rattle.p2p_session.specs.Networks.{SessionCall, AreCalled, judged_wire, network_steps};
+ghost use Rattle.p2p_session.specs.Networks.{SessionCall, AreInit, AreCalled, judged_wire};
+ghost use Rattle.p2p_session.specs.Networks.{network_steps};
 ghost use Rattle.p2p_session.specs.Networks.{LawsOfGossip};
 ghost use Rattle.p2p_session.specs.Refusals.{number_of};
 ghost use Rattle.p2p_session.specs.Alike.{AreAlike, IsWhole, IsHeldOf, TellsOfCall, TellsOfFrame};
@@ -110,23 +111,25 @@ pub fn answers_decide_replies<C: PublicKey>()
 /// says which signatures are valid: their calls, their frames, and the frames that they ask with
 /// are a run of it. Other questions, and what was refused before the node was called, are left out,
 /// and so are calls for which memory was refused. The verification results with a frame have to be
-/// those of the predicate, for the infos that [`Session::call`](crate::Session::call) lists of it,
-/// up to the first invalid one. So the laws of gossip hold, and those of exchanges where the frames
-/// of some are counted as such. docs/PROOFS.md has this below "Nodes and gossip".
+/// those of the predicate, for the infos that [`Session::check`](crate::Session::check) lists, up
+/// to the first invalid one. So the laws of gossip hold, and those of exchanges where frames of
+/// some are counted as such. That each call leads on so is what [`sessions_go_on`] says of it.
+/// docs/PROOFS.md has this below "Nodes and gossip".
 pub fn sessions_are_a_network<C: PublicKey>()
     ensures run { (verifies : C → List ℕ → List ℕ → C.Signature → Bool)
-        (setups : List (Setup C C.Signature)) (calls : List (SessionCall C C.Signature))
-        (vs vs2 : List (NodeView C C.Signature)) →
+        (inits : List (Served C C.Signature)) (setups : List (Setup C C.Signature))
+        (calls : List (SessionCall C C.Signature)) (vs vs2 : List (NodeView C C.Signature)) →
         let k = ⟦<C as Keys>⟧.scheme in let w = judged_wire k verifies in
-        OfNetwork C.cmp setups (λ size node. StandAfter w size node [] vs →
-        AreCalled k verifies calls vs vs2 →
+        AreInit k inits setups vs → AreCalled k verifies calls vs vs2 →
+        OfNetwork C.cmp setups (λ size node.
         IsNetworkRun w size node (not_refused (network_steps calls)) vs2) }
     ensures laws { (verifies : C → List ℕ → List ℕ → C.Signature → Bool)
-        (setups : List (Setup C C.Signature)) (calls : List (SessionCall C C.Signature))
-        (vs vs2 : List (NodeView C C.Signature)) (n : ℕ) (counted : Steps C C.Signature) →
+        (inits : List (Served C C.Signature)) (setups : List (Setup C C.Signature))
+        (calls : List (SessionCall C C.Signature)) (vs vs2 : List (NodeView C C.Signature))
+        (n : ℕ) (counted : Steps C C.Signature) →
         let k = ⟦<C as Keys>⟧.scheme in let w = judged_wire k verifies in
-        OfNetwork C.cmp setups (λ size node. StandAfter w size node [] vs →
-        AreCalled k verifies calls vs vs2 →
+        AreInit k inits setups vs → AreCalled k verifies calls vs vs2 →
+        OfNetwork C.cmp setups (λ size node.
         AreCounted w size node C.IsValue C.Signature.IsValue n (not_refused (network_steps calls))
         counted → LawsOfGossip w size node C.IsValue C.Signature.IsValue counted) }
 {}

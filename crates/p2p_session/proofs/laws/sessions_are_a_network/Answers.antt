@@ -9,12 +9,14 @@ use Rattle.p2p_session.proofs.Networks.{are_network, are_made, laws_hold}
 use Rattle.p2p_session.proofs.laws.sessions_are_a_network.Goals as goal
 
 pub returns-clause-run : goal.returns-clause-run
-returns-clause-run g c = λ verifies setups calls vs vs2 other.
+returns-clause-run g c = λ verifies inits setups calls vs vs2 made called other.
     are_network (scheme_by g.C.PartialOrd g.C.Ord g.C.PartialEq g.C.FixedBytes g.C.PublicKey
-    g.C.Signature.PartialEq g.C.Signature.FixedBytes) verifies setups other calls vs vs2
+    g.C.Signature.PartialEq g.C.Signature.FixedBytes) verifies setups other inits calls vs vs2 made
+    called
 
 pub returns-clause-laws : goal.returns-clause-laws
-returns-clause-laws g c = λ verifies setups calls vs vs2 n counted other stand called are.
+returns-clause-laws g c = λ verifies inits setups calls vs vs2 n counted made called
+    other are.
     let k = scheme_by g.C.PartialOrd g.C.Ord g.C.PartialEq g.C.FixedBytes g.C.PublicKey
     g.C.Signature.PartialEq g.C.Signature.FixedBytes in
     let w = judged_wire k verifies in
@@ -26,4 +28,4 @@ returns-clause-laws g c = λ verifies setups calls vs vs2 n counted other stand 
     (stays_run w size node g.C.FixedBytes.IsValue g.C.Signature.FixedBytes.IsValue
     (is_carried g.met.C.FixedBytes.fixed g.met.C.Signature.FixedBytes.fixed verifies) n
     (not_refused (network_steps calls)) counted are vs2
-    (are_network k verifies setups other calls vs vs2 stand called)).answers
+    (are_network k verifies setups other inits calls vs vs2 made called)).answers
