@@ -7,7 +7,7 @@ use p2p_discovery::codec::PublicKey;
 use std::marker::Model;
 
 /// The frame that was checked last, decoded, if it wasn't received since. Contracts see nothing of
-/// it: with it and without it, each call returns the same.
+/// it: with it and without it, each call returns the same, or want of memory where that is allowed.
 #[derive(Drop)]
 pub struct Checked<C: PublicKey> {
     last: Option<Decoded<C>>,

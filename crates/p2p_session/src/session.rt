@@ -159,9 +159,11 @@ impl<C: PublicKey> Session<C> {
         }
     }
 
-    /// `Node::answer_with_verdicts` of the session's node: processes a frame, and writes the
-    /// answer. `verdicts` has a byte for each of its infos, which says whether its signature is
-    /// valid. A frame that was checked last is decoded already.
+    /// Processes a frame by the session's node, and writes the answer: as
+    /// `Node::answer_with_verdicts` does, or `Node::answer_decoded` if the frame was checked last.
+    /// `verdicts` has a byte for each of its infos, which says whether its signature is valid. It
+    /// counts for those that [`Session::check`] lists for the same time, up to the first that is
+    /// invalid; the others may be anything.
     #[inline(never)]
     pub fn receive(
         &mut self,
