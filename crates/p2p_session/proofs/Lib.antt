@@ -16,6 +16,7 @@ pub mod Told
 pub mod Alike
 pub mod Wants
 pub mod Looked
+pub mod Represented
 pub mod Networks
 mod ShownSteps
 mod ShownAnswers

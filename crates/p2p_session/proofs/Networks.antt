@@ -22,7 +22,7 @@ use Rattle.p2p_directory.specs.declared.node.setup.Setup.{Setup}
 use Rattle.p2p_directory.specs.declared.run.commands.Reply.{Reply}
 use Rattle.p2p_directory.specs.Nodes.{NodeView, standing_of, made_of, IsSteppedAt, AtEach, IsAsked}
 use Rattle.p2p_directory.specs.Nodes.{IsReceived, IsStepped, AsksWith, Made}
-use Rattle.p2p_directory.specs.Received.{Wire, verdicts_of}
+use Rattle.p2p_directory.specs.Received.{ask_frame_at, Wire, verdicts_of}
 use Rattle.p2p_directory.specs.Network.{IsServedAmong, AsksAt, node_made}
 use Rattle.p2p_directory.specs.Laws.InTurn.{AreServedInTurn, Steps, IsNetworkRun, not_refused}
 use Rattle.p2p_directory.specs.Laws.Verdicts.{AreToldOf}
@@ -59,6 +59,9 @@ use Rattle.p2p_session.specs.Networks.{SessionCall, network_steps, judged_wire, 
 use Rattle.p2p_session.specs.Networks.{IsInNetwork, AreCalled, LawsOfGossip}
 use Rattle.p2p_session.specs.Networks.{IsSpelledIn}
 use Rattle.p2p_session.specs.Networks.{AreInit}
+use Rattle.p2p_session.specs.Networks.{IsShortStep, IsSomething}
+use Rattle.p2p_session.specs.Laws.{Goes}
+use Rattle.p2p_session.proofs.Represented.{moment, is_moment, has_command}
 
 module _ {C S : Type 0} (k : Scheme C S) (verifies : C → List ℕ → List ℕ → S → Bool) where
   abbrev over : Wire C S
@@ -166,6 +169,31 @@ module _ {C S : Type 0} (k : Scheme C S) (verifies : C → List ℕ → List ℕ
         })
     one asked step o leads told is = absurd is
 
+  -- ---- each call is something to the network, or nothing
+
+  something : (i : ℕ) (asked : Option (Request C S)) (step : Step C S) (v : NodeView C S) →
+      IsShortStep step → (o : Option (NetworkCommand C S × NetworkReply C S))
+      × IsInNetwork k verifies i asked step v o
+  something i asked (Called call r) v short = let x = has_command call short in
+      (Some (command.Call i x.0, reply.Call r), (refl, x.1, refl))
+  something i asked (Heard frame now verdicts r) v short =
+      (Some (command.Frame i frame (moment now), reply.Frame r), (refl, refl, is_moment now, refl))
+  something i (Some (Looking (Wanted n))) Looked v short = (
+    Some (
+      command.Ask i n,
+      reply.Ask (ask_frame_at (wire k) (standing_of k.key.cmp (wire k) v) n),
+    ),
+    (refl, refl, refl),
+  )
+  something i asked Looked v short = (None, tt)
+
+  pub is_something : (i : ℕ) (call : Served C S) (v v2 : NodeView C S)
+      (goes : Goes k call (Some v) (Some v2)) → IsShortStep goes.0 →
+      AreVerdicts k verifies goes.0 v → IsSomething k verifies i call v v2
+  is_something i call v v2 goes short told =
+      let it = something i call.asked goes.0 v short in
+      (it.0, record { goes = goes; verdicts = told; in_network = it.1 })
+
   -- ---- all calls
 
   turn : (o : Option (NetworkCommand C S × NetworkReply C S)) (rest : Steps C S)
@@ -225,7 +253,10 @@ module _ {C S : Type 0} (k : Scheme C S) (verifies : C → List ℕ → List ℕ
         IsNetworkRun over size node (not_refused (network_steps calls)) vs2
     are_network inits calls vs vs2 made h = is_run k.key.cmp over setups other
         (network_steps calls) vs vs2
-        (record { count = as_many inits setups vs made; each = made_each other inits setups vs made })
+        (record {
+          count = as_many inits setups vs made;
+          each = made_each other inits setups vs made;
+        })
         (are_served calls vs vs2 h)
 
 -- ---- the laws of gossip

@@ -16,6 +16,8 @@ use Rattle.p2p_directory.specs.Network.{Done, is_node, standing_at}
 use Rattle.p2p_directory.specs.declared.node.setup.Setup.{Setup}
 use Rattle.p2p_directory.specs.Nodes.{NodeView, Made, NodeStandsAt, standing_of, made_of}
 use Rattle.p2p_directory.specs.Received.{Wire, ask_frame_at}
+use Rattle.p2p_tracker.specs.Calls.{Call}
+use Rattle.p2p_tracker.specs.Calls.Call.{Update}
 use Rattle.p2p_directory.specs.Run.{call_of}
 use Rattle.p2p_directory.specs.Laws.InTurn.{Steps}
 use Rattle.p2p_directory.specs.Laws.Network.{AtEachPoint, OfEachReply, PointLaws, BringsWanted}
@@ -40,6 +42,16 @@ pub record SessionCall (C S : Type 0) : Type 0 where
 -- what all of them are to it, in order
 abbrev pub network_steps : {C S : Type 0} → List (SessionCall C S) → Steps C S
 network_steps calls = filter_map (λ x. x.in_network) calls
+
+-- the infos of a call fit memory
+abbrev pub IsShort : {C S : Type 0} → Call C S → Type 0
+IsShort (Update infos) = length infos < 2 ^ 63
+IsShort _ = Unit {0}
+
+-- .. of a step
+abbrev pub IsShortStep : {C S : Type 0} → Step C S → Type 0
+IsShortStep (Called call r) = IsShort call
+IsShortStep _ = Unit {0}
 
 module _ {C S : Type 0} (k : Scheme C S) where
   -- each session was made by `init`, of one of these setups, in their order
@@ -76,16 +88,22 @@ module _ {C S : Type 0} (k : Scheme C S) (verifies : C → List ℕ → List ℕ
   IsInNetwork i (Some (Looking (Wanted n))) Looked v
       (Some (command.Ask j place, reply.OutOfMemory)) = (j ≡ i) × (place ≡ n)
       × (is_some (ask_frame_at (wire k) (standing_of k.key.cmp (wire k) v) n) ≡ true)
+  IsInNetwork i (Some (Looking (Wanted n))) Looked v None = ⊥
   IsInNetwork i asked Looked v None = Unit {0}
   IsInNetwork i asked step v x = ⊥
 
-  -- the call leads from one to the other by a step, which is this to the network
+  -- the call leads from one to the other by a step, which is this to the network, or nothing
   pub record IsServedBy (x : SessionCall C S) (v v2 : NodeView C S) : Type 0 where
     pub goes : Goes k x.call (Some v) (Some v2)
     pub verdicts : AreVerdicts goes.0 v
     pub in_network : IsInNetwork x.session x.call.asked goes.0 v x.in_network
 
-  -- .. so it leads the node of its session, and all others stay
+  -- .. or to nothing
+  abbrev pub IsSomething : ℕ → Served C S → NodeView C S → NodeView C S → Type 0
+  IsSomething i call v v2 = (o : Option (NetworkCommand C S × NetworkReply C S))
+      × IsServedBy (record { session = i; call = call; in_network = o }) v v2
+
+  -- it leads the node of its session so, and all others stay
   pub record IsCalled (x : SessionCall C S) (vs vs2 : List (NodeView C S)) : Type 0 where
     pub there : x.session < length vs
     pub before : NodeView C S

@@ -27,6 +27,7 @@ ghost use Rattle.p2p_session.specs.Requests.{ServesRequest, AreSpelledOnce};
 ghost use Rattle.p2p_session.specs.Steps.{Step, Lead, AreRun};
 ghost use Rattle.p2p_session.specs.Laws.{Served, Goes, AreServed, IsRun};
 ghost use Rattle.p2p_session.specs.Networks.{SessionCall, AreInit, AreCalled, judged_wire};
+ghost use Rattle.p2p_session.specs.Networks.{IsShortStep, AreVerdicts, IsSomething};
 ghost use Rattle.p2p_session.specs.Networks.{network_steps};
 ghost use Rattle.p2p_session.specs.Networks.{LawsOfGossip};
 ghost use Rattle.p2p_session.specs.Refusals.{number_of};
@@ -113,8 +114,8 @@ pub fn answers_decide_replies<C: PublicKey>()
 /// and so are calls for which memory was refused. The verification results with a frame have to be
 /// those of the predicate, for the infos that [`Session::check`](crate::Session::check) lists, up
 /// to the first invalid one. So the laws of gossip hold, and those of exchanges where frames of
-/// some are counted as such. That each call leads on so is what [`sessions_go_on`] says of it.
-/// docs/PROOFS.md has this below "Nodes and gossip".
+/// some are counted as such. Each call leads on, by [`sessions_go_on`], and is such a command or
+/// left out. docs/PROOFS.md has this below "Nodes and gossip".
 pub fn sessions_are_a_network<C: PublicKey>()
     ensures run { (verifies : C → List ℕ → List ℕ → C.Signature → Bool)
         (inits : List (Served C C.Signature)) (setups : List (Setup C C.Signature))
@@ -132,4 +133,8 @@ pub fn sessions_are_a_network<C: PublicKey>()
         OfNetwork C.cmp setups (λ size node.
         AreCounted w size node C.IsValue C.Signature.IsValue n (not_refused (network_steps calls))
         counted → LawsOfGossip w size node C.IsValue C.Signature.IsValue counted) }
+    ensures each { (verifies : C → List ℕ → List ℕ → C.Signature → Bool) (i : ℕ)
+        (call : Served C C.Signature) (v v2 : NodeView C C.Signature) →
+        let k = ⟦<C as Keys>⟧.scheme in (goes : Goes k call (Some v) (Some v2)) →
+        IsShortStep goes.0 → AreVerdicts k verifies goes.0 v → IsSomething k verifies i call v v2 }
 {}
