@@ -1,0 +1,5 @@
+pub mod Kept
+pub mod Firsts
+pub mod Least
+pub mod Greatest
+pub mod Crowded

@@ -1,0 +1,6 @@
+-- What a driver promises rests on these: read them in this order.
+pub mod Rates
+pub mod Paces
+pub mod Recommended
+pub mod Origins
+pub mod Arrivals

@@ -1,0 +1,201 @@
+//! The inbound streams whose key isn't proved yet.
+
+ghost use Rattle.std.specs.Prelude.{◌≡◌, ◌&&◌, ◌||◌, not, find, nat_le, is_some, option_map};
+ghost use Rattle.std.specs.Prelude.{IfSome, IfNone, IsSome, None, ◌↔◌, slice_get, length, ◌<◌, max};
+ghost use Rattle.std.specs.Duration.{as_nanos};
+ghost use Rattle.std.specs.List.{count_by, filter};
+ghost use Rattle.p2p_driver.specs.Arrivals.{is_of, is_older, has_number, has_most, is_crowded};
+ghost use Rattle.p2p_driver.specs.Arrivals.{count_older, crowded_of, deadline_of, IsLeastDeadline};
+ghost use Rattle.p2p_driver.specs.Arrivals.{lesser_of, gives_way};
+
+use crate::origin::Origin;
+use std::time::Duration;
+
+/// An inbound stream whose key isn't proved yet.
+#[derive(Clone, Copy, Debug)]
+pub struct Arrival<K> {
+    /// Its number, of those of links.
+    pub number: u64,
+    /// By what it is counted.
+    pub origin: Origin,
+    /// When it came, a steady time.
+    pub came: Duration,
+    /// Whose it says that it is, if it has.
+    pub claim: Option<K>,
+}
+
+// How many of the streams are of the origin.
+pub(crate) fn count_of<K: Copy>(arrivals: &[Arrival<K>], origin: Origin) -> usize
+    ensures { result ≡ count_by (is_of origin) arrivals.now }
+{
+    arrivals
+        .iter()
+        .filter(|arrival| arrival.origin == origin)
+        .count()
+}
+
+// The number of the stream that gives way to a new one, if one does. Of those that came longer ago
+// than `grace` it is one of an origin that has most of these, first one that hasn't claimed, and of
+// these the oldest.
+pub(crate) fn crowded<K: Copy>(
+    arrivals: &[Arrival<K>],
+    grace: Duration,
+    now: Duration,
+) -> Option<u64>
+    ensures { result ≡ crowded_of (as_nanos grace) (as_nanos now) arrivals.now }
+{
+    let most = greatest(arrivals, grace, now);
+    match first_of(arrivals, grace, now, most, false) {
+        Some(number) => Some(number),
+        None => first_of(arrivals, grace, now, most, true),
+    }
+}
+
+// The first of the streams with the number.
+pub(crate) fn place_of<K: Copy>(arrivals: &[Arrival<K>], number: u64) -> Option<usize>
+    ensures found { IfSome result (λ place. (place < length arrivals.now)
+        × (slice_get arrivals.now place ≡ find (has_number number) arrivals.now)) }
+    ensures none { IfNone result (find (has_number number) arrivals.now ≡ None) }
+{
+    for place in 0..arrivals.len() {
+        if arrivals[place].number == number {
+            return Some(place);
+        }
+    }
+    None
+}
+
+// The first of the streams that claims too late, or is proved too late.
+pub(crate) fn late<K: Copy>(
+    arrivals: &[Arrival<K>],
+    first: Duration,
+    handshake: Duration,
+    now: Duration,
+) -> Option<u64>
+    ensures { result ≡ option_map (λ a. a.number)
+        (find (λ a. nat_le (deadline_of (as_nanos first) (as_nanos handshake) a) (as_nanos now))
+        arrivals.now) }
+{
+    arrivals
+        .iter()
+        .find(|arrival| deadline(**arrival, first, handshake) <= now.as_nanos())
+        .map(|arrival| arrival.number)
+}
+
+// The moment, in nanoseconds, at which the first of the streams is late.
+pub(crate) fn next_late<K: Copy>(
+    arrivals: &[Arrival<K>],
+    first: Duration,
+    handshake: Duration,
+) -> Option<u128>
+    ensures { IsLeastDeadline (as_nanos first) (as_nanos handshake) arrivals.now result }
+{
+    let mut next = None;
+    for arrival in arrivals {
+        next = Some(lesser(next, deadline(*arrival, first, handshake)));
+    }
+    next
+}
+
+// The lesser of a moment and another, if there is another.
+fn lesser(other: Option<u128>, moment: u128) -> u128
+    ensures { result ≡ lesser_of other moment }
+{
+    match other {
+        Some(other) => other.min(moment),
+        None => moment,
+    }
+}
+
+// The moment, in nanoseconds, by which the stream has to claim, or if it has, to be proved.
+fn deadline<K: Copy>(arrival: Arrival<K>, first: Duration, handshake: Duration) -> u128
+    ensures { result ≡ deadline_of (as_nanos first) (as_nanos handshake) arrival }
+{
+    let handshake = handshake.as_nanos();
+    let within = match arrival.claim {
+        Some(_) => handshake,
+        None => first.as_nanos().min(handshake),
+    };
+    arrival.came.as_nanos() + within
+}
+
+// Whether the stream came longer ago than this.
+fn is_older<K: Copy>(arrival: &Arrival<K>, grace: Duration, now: Duration) -> bool
+    ensures { result ≡ is_older (as_nanos grace) (as_nanos now) arrival.now }
+{
+    grace.as_nanos() < now.saturating_sub(arrival.came).as_nanos()
+}
+
+// How many of the streams that came longer ago than this are of the origin.
+fn count_older<K: Copy>(
+    arrivals: &[Arrival<K>],
+    origin: Origin,
+    grace: Duration,
+    now: Duration,
+) -> usize
+    ensures { result ≡ count_older (as_nanos grace) (as_nanos now) arrivals.now origin }
+{
+    arrivals
+        .iter()
+        .filter(|arrival| is_older(arrival, grace, now) && arrival.origin == origin)
+        .count()
+}
+
+// How many the origin has that has most of those that came longer ago than this.
+fn greatest<K: Copy>(arrivals: &[Arrival<K>], grace: Duration, now: Duration) -> usize
+    ensures { (a : _) → has_most (as_nanos grace) (as_nanos now) arrivals.now a
+        ≡ nat_le result (count_older (as_nanos grace) (as_nanos now) arrivals.now a.origin) }
+{
+    let mut most = 0;
+    for arrival in arrivals {
+        if is_older(arrival, grace, now) {
+            most = greater(most, count_older(arrivals, arrival.origin, grace, now));
+        }
+    }
+    most
+}
+
+// The greater of two counts.
+fn greater(one: usize, other: usize) -> usize
+    ensures { result ≡ max one other }
+{
+    one.max(other)
+}
+
+// The first of the streams that came longer ago than this and whose origin has so many of these,
+// and that hasn't claimed, or of all.
+fn first_of<K: Copy>(
+    arrivals: &[Arrival<K>],
+    grace: Duration,
+    now: Duration,
+    most: usize,
+    all: bool,
+) -> Option<u64>
+    ensures { result ≡ option_map (λ a. a.number)
+        (find (gives_way (as_nanos grace) (as_nanos now) arrivals.now most all) arrivals.now) }
+{
+    for arrival in arrivals {
+        if gives_way(arrivals, arrival, grace, now, most, all) {
+            return Some(arrival.number);
+        }
+    }
+    None
+}
+
+// Whether the stream came longer ago than this, its origin has so many of these, and it hasn't
+// claimed, or that doesn't matter.
+fn gives_way<K: Copy>(
+    arrivals: &[Arrival<K>],
+    arrival: &Arrival<K>,
+    grace: Duration,
+    now: Duration,
+    most: usize,
+    all: bool,
+) -> bool
+    ensures { result ≡
+        gives_way (as_nanos grace) (as_nanos now) arrivals.now most all arrival.now }
+{
+    is_older(arrival, grace, now)
+        && most <= count_older(arrivals, arrival.origin, grace, now)
+        && (all || arrival.claim.is_none())
+}
