@@ -1,15 +1,24 @@
 -- The inbound streams whose key isn't proved yet. Moments and durations are nanoseconds.
 use Rattle.std.specs.Prelude.{ℕ, ◌≡◌, ◌==◌, ◌≤◌, ◌+◌, ◌-◌, ◌&&◌, ◌||◌, if◌then◌else◌, find, not, nat_le, nat_lt, min, Bool}
-use Rattle.std.specs.Prelude.{List, [], Option, Some, None, is_some, option_map}
+use Rattle.std.specs.Prelude.{List, [], ◌∷◌, ◌++◌, length, Option, Some, None, is_some, option_map}
 use Rattle.std.specs.Duration.{as_nanos}
-use Rattle.std.specs.List.{count_by, list_all, slice_get}
+use Rattle.std.specs.List.{count_by, filter, list_all, slice_get}
 use Rattle.p2p_driver.specs.declared.origin.Origin.{Origin}
+use Rattle.std.specs.declared.time.Duration.{Duration}
 use Rattle.p2p_driver.specs.declared.arrivals.Arrival.{Arrival}
+use Rattle.p2p_driver.specs.declared.arrivals.Room.{Room}
+use Rattle.p2p_driver.specs.declared.arrivals.Room.TheVariants as room
+use Rattle.p2p_driver.specs.declared.pace.Pace.{Pace}
 
 -- the first of these, if there is one
 abbrev pub or_else : {A : Type 0} → Option A → Option A → Option A
 or_else None other = other
 or_else (Some a) other = Some a
+
+-- the room of another, if one gives way
+abbrev pub room_of_other : Option ℕ → Room
+room_of_other None = room.None
+room_of_other (Some number) = room.Of number
 
 -- the lesser of a moment and another, if there is another
 abbrev pub lesser_of : Option ℕ → ℕ → ℕ
@@ -69,3 +78,24 @@ module _ {K : Type 0} (grace now : ℕ) (arrivals : List (Arrival K)) where
   abbrev pub gives_way : ℕ → Bool → Arrival K → Bool
   gives_way most all a = (is_older grace now a && nat_le most (count_older a.origin))
       && (all || not (is_some a.claim))
+
+-- WHAT BECOMES OF THEM
+module _ {K : Type 0} where
+  -- a stream that came, and hasn't claimed
+  abbrev pub arrival_of : ℕ → Origin → Duration → Arrival K
+  arrival_of number origin came =
+      record { number = number; origin = origin; came = came; claim = None }
+
+  -- whether there is room for one from the origin
+  abbrev pub room_of : Pace → ℕ → List (Arrival K) → Origin → Room
+  room_of pace now arrivals origin = if nat_le pace.by_address (count_by (is_of origin) arrivals)
+      then room.None
+      else if nat_lt (length arrivals) pace.arrivals then room.Free
+      else room_of_other (crowded_of (as_nanos pace.grace) now arrivals)
+
+  -- those that are kept once one came, by the room for it
+  abbrev pub arrived : Arrival K → Room → List (Arrival K) → List (Arrival K)
+  arrived new room.None arrivals = arrivals
+  arrived new room.Free arrivals = arrivals ++ new ∷ []
+  arrived new (room.Of number) arrivals =
+      filter (λ a. not (has_number number a)) arrivals ++ new ∷ []

@@ -6,9 +6,14 @@ ghost use Rattle.std.specs.Duration.{as_nanos};
 ghost use Rattle.std.specs.List.{count_by, filter};
 ghost use Rattle.p2p_driver.specs.Arrivals.{is_of, is_older, has_number, has_most, is_crowded};
 ghost use Rattle.p2p_driver.specs.Arrivals.{count_older, crowded_of, deadline_of, IsLeastDeadline};
-ghost use Rattle.p2p_driver.specs.Arrivals.{lesser_of, gives_way};
+ghost use Rattle.std.specs.Prelude.{IfOk, OnErr, [], ◌≤◌, vec_len, vec_capacity};
+ghost use Rattle.std.specs.List.{filter};
+ghost use Rattle.p2p_driver.specs.Arrivals.{lesser_of, gives_way, arrival_of, room_of, arrived};
 
 use crate::origin::Origin;
+use crate::pace::Pace;
+use std::alloc::{AllocError, Global};
+use std::marker::Model;
 use std::time::Duration;
 
 /// An inbound stream whose key isn't proved yet.
@@ -22,6 +27,149 @@ pub struct Arrival<K> {
     pub came: Duration,
     /// Whose it says that it is, if it has.
     pub claim: Option<K>,
+}
+
+impl<K> Arrival<K> {
+    // A stream that came at this time, and hasn't claimed.
+    fn new(number: u64, origin: Origin, came: Duration) -> Self
+        ensures { result ≡ arrival_of number origin came }
+    {
+        Arrival {
+            number,
+            origin,
+            came,
+            claim: None,
+        }
+    }
+}
+
+/// The inbound streams whose key isn't proved yet, in the order in which they came. A contract sees
+/// the list of them.
+#[derive(Debug, Drop)]
+pub struct Arrivals<K> {
+    streams: Vec<Arrival<K>>,
+}
+
+impl<K> Model for Arrivals<K> {
+    ghost use Rattle.std.specs.Prelude.{List};
+    ghost use Rattle.p2p_driver.specs.declared.arrivals.Arrival.{Arrival};
+
+    ghost Value = { List (Arrival K) };
+
+    ghost view = { λ a. a.streams.items };
+
+    ghost invariant = { λ a. Unit {0} };
+}
+
+impl<K: Copy> Arrivals<K> {
+    /// No streams. It doesn't allocate.
+    pub fn new(alloc: Global) -> Self
+        ensures { result ≡ [] }
+    {
+        Arrivals {
+            streams: Vec::new(alloc),
+        }
+    }
+
+    /// The streams, in the order in which they came.
+    pub fn as_slice(&self) -> &[Arrival<K>]
+        ensures { result.now ≡ self.now }
+    {
+        &self.streams
+    }
+
+    /// Takes a stream that came from the origin at the steady time `now`, under a number above all
+    /// others, if there is room for it. Returns whether there is, and the number of the stream that
+    /// gives way to it, if one does: that one is no longer kept.
+    ///
+    /// There is no room if the origin has `by_address` streams. If all `arrivals` are taken, of the
+    /// streams that came longer ago than `grace` one gives way, of an origin that has most of these:
+    /// first one that hasn't claimed, and of these the oldest. If all came within `grace`, there is
+    /// no room. Nothing changes then.
+    ///
+    /// # Errors
+    ///
+    /// `AllocError` if an allocation fails. Nothing changes then.
+    ///
+    /// # Cost
+    ///
+    /// Two passes over the streams. If all are taken, one for each of them.
+    pub fn arrive(
+        &mut self,
+        number: u64,
+        origin: Origin,
+        pace: &Pace,
+        now: Duration,
+    ) -> Result<Room, AllocError>
+        ensures room { IfOk result (λ room. room ≡ room_of pace.now (as_nanos now) self.old origin) }
+        ensures taken { IfOk result (λ room. self.new
+            ≡ arrived (arrival_of number origin now) room self.old) }
+        ensures err { OnErr result (self.new ≡ self.old) }
+    {
+        let room = room_for(&self.streams, origin, pace, now);
+        match room {
+            Room::None => {}
+            Room::Free => self.streams.push(Arrival::new(number, origin, now))?,
+            Room::Of(crowded) => {
+                self.streams.reserve(1)?;
+                remove(&mut self.streams, crowded);
+                self.streams.push_reserved(Arrival::new(number, origin, now));
+            }
+        }
+        Ok(room)
+    }
+
+    /// Keeps the stream with the number no longer.
+    ///
+    /// # Cost
+    ///
+    /// One pass over the streams.
+    pub fn remove(&mut self, number: u64)
+        ensures { self.new ≡ filter (λ a. not (has_number number a)) self.old }
+    {
+        remove(&mut self.streams, number);
+    }
+}
+
+/// Whether there is room for a stream that comes.
+#[derive(Clone, Copy, Debug, PartialEq, Eq)]
+pub enum Room {
+    /// There is none.
+    None,
+    /// There is.
+    Free,
+    /// There is that of the stream with the number, which gives way.
+    Of(u64),
+}
+
+// Keeps the stream with the number no longer.
+fn remove<K: Copy>(streams: &mut Vec<Arrival<K>>, number: u64)
+    ensures items { streams.new.items ≡ filter (λ a. not (has_number number a)) streams.old.items }
+    ensures capacity { vec_capacity streams.new ≡ vec_capacity streams.old }
+    ensures length { vec_len streams.new ≤ vec_len streams.old }
+{
+    streams.retain(|stream| stream.number != number);
+}
+
+// Whether there is room for a stream that comes from the origin.
+fn room_for<K: Copy>(
+    streams: &[Arrival<K>],
+    origin: Origin,
+    pace: &Pace,
+    now: Duration,
+) -> Room
+    ensures { result ≡ room_of pace.now (as_nanos now) streams.now origin }
+{
+    if pace.by_address <= count_of(streams, origin) {
+        return Room::None;
+    }
+    if streams.len() < pace.arrivals {
+        return Room::Free;
+    }
+    match crowded(streams, pace.grace, now) {
+        Some(number) => Room::Of(number),
+        None => Room::None,
+    }
 }
 
 // How many of the streams are of the origin.
