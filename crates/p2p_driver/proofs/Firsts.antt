@@ -1,9 +1,7 @@
 -- What is found in a list, while it is walked.
-use Rattle.std.proofs.Common.{◌≡◌, arith, ℕ, ◌+◌, ◌<◌, Bool, true, false, cond, not, ◌&&◌, List}
+use Rattle.std.proofs.Common.{◌≡◌, ℕ, ◌+◌, ◌<◌, Bool, true, false, cond, not, ◌&&◌, List}
 use Rattle.std.proofs.Common.{length, Some, find, drop, get_or, ◌∙◌, ap, sym, suc, add-one, drop-cons}
-use Rattle.std.specs.Prelude.{◌==◌}
 use Rattle.std.specs.List.{list_all}
-use Rattle.std.proofs.lemmas.Bool.Decides.{nat_tests}
 
 -- what isn't it is passed
 pub passed : {A : Type 0} (p : A → Bool) (xs : List A) (i : ℕ) (x : A) → i < length xs →
@@ -29,7 +27,3 @@ pub all_next : {A : Type 0} (p : A → Bool) (xs : List A) (i : ℕ) (x : A) →
     list_all p (drop i xs) ≡ (p (get_or xs i x) && list_all p (drop (i + 1) xs))
 all_next p xs i x lt = ap (list_all p) (drop-cons xs i x lt)
     ∙ ap (λ n. p (get_or xs i x) && list_all p (drop n xs)) (sym (add-one i))
-
--- the test of equal numbers
-pub equal_test : (a b : ℕ) → a ≡ b → (a == b) ≡ true
-equal_test a b is = grind (arith, nat_tests)

@@ -1,7 +1,7 @@
 //! The inbound streams whose key isn't proved yet.
 
 ghost use Rattle.std.specs.Prelude.{◌≡◌, ◌&&◌, ◌||◌, not, find, nat_le, is_some, option_map};
-ghost use Rattle.std.specs.Prelude.{IfSome, IfNone, IsSome, None, ◌↔◌, slice_get, length, ◌<◌, max};
+ghost use Rattle.std.specs.Prelude.{max};
 ghost use Rattle.std.specs.Duration.{as_nanos};
 ghost use Rattle.std.specs.List.{count_by, filter};
 ghost use Rattle.p2p_driver.specs.Arrivals.{is_of, is_older, has_number, has_most, is_crowded};
@@ -119,6 +119,33 @@ impl<K: Copy> Arrivals<K> {
         Ok(room)
     }
 
+    /// The number of the first stream that is late at the steady time `now`, if one is: one that has
+    /// claimed is `handshake` after it came, another is `first` or `handshake` after it, whichever is
+    /// sooner.
+    ///
+    /// # Cost
+    ///
+    /// One pass over the streams.
+    pub fn late(&self, pace: &Pace, now: Duration) -> Option<u64>
+        ensures { result ≡ option_map (λ a. a.number) (find (λ a. nat_le
+            (deadline_of (as_nanos pace.now.first) (as_nanos pace.now.handshake) a) (as_nanos now))
+            self.now) }
+    {
+        late(&self.streams, pace.first, pace.handshake, now)
+    }
+
+    /// The first moment, in nanoseconds, at which a stream is late, or `None` if there is no stream.
+    ///
+    /// # Cost
+    ///
+    /// One pass over the streams.
+    pub fn next_late(&self, pace: &Pace) -> Option<u128>
+        ensures { IsLeastDeadline (as_nanos pace.now.first) (as_nanos pace.now.handshake)
+            self.now result }
+    {
+        next_late(&self.streams, pace.first, pace.handshake)
+    }
+
     /// Keeps the stream with the number no longer.
     ///
     /// # Cost
@@ -173,7 +200,7 @@ fn room_for<K: Copy>(
 }
 
 // How many of the streams are of the origin.
-pub(crate) fn count_of<K: Copy>(arrivals: &[Arrival<K>], origin: Origin) -> usize
+fn count_of<K: Copy>(arrivals: &[Arrival<K>], origin: Origin) -> usize
     ensures { result ≡ count_by (is_of origin) arrivals.now }
 {
     arrivals
@@ -185,7 +212,7 @@ pub(crate) fn count_of<K: Copy>(arrivals: &[Arrival<K>], origin: Origin) -> usiz
 // The number of the stream that gives way to a new one, if one does. Of those that came longer ago
 // than `grace` it is one of an origin that has most of these, first one that hasn't claimed, and of
 // these the oldest.
-pub(crate) fn crowded<K: Copy>(
+fn crowded<K: Copy>(
     arrivals: &[Arrival<K>],
     grace: Duration,
     now: Duration,
@@ -199,22 +226,8 @@ pub(crate) fn crowded<K: Copy>(
     }
 }
 
-// The first of the streams with the number.
-pub(crate) fn place_of<K: Copy>(arrivals: &[Arrival<K>], number: u64) -> Option<usize>
-    ensures found { IfSome result (λ place. (place < length arrivals.now)
-        × (slice_get arrivals.now place ≡ find (has_number number) arrivals.now)) }
-    ensures none { IfNone result (find (has_number number) arrivals.now ≡ None) }
-{
-    for place in 0..arrivals.len() {
-        if arrivals[place].number == number {
-            return Some(place);
-        }
-    }
-    None
-}
-
 // The first of the streams that claims too late, or is proved too late.
-pub(crate) fn late<K: Copy>(
+fn late<K: Copy>(
     arrivals: &[Arrival<K>],
     first: Duration,
     handshake: Duration,
@@ -231,7 +244,7 @@ pub(crate) fn late<K: Copy>(
 }
 
 // The moment, in nanoseconds, at which the first of the streams is late.
-pub(crate) fn next_late<K: Copy>(
+fn next_late<K: Copy>(
     arrivals: &[Arrival<K>],
     first: Duration,
     handshake: Duration,
