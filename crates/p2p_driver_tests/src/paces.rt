@@ -67,7 +67,9 @@ fn limits() -> Limits {
 }
 
 // What is at fault in settings for eight peers, once they are changed.
-fn fault(alloc: Global, change: impl FnOnce(&mut Pace)) -> Option<Setting> {
+fn fault<Change: FnOnce(&mut Pace)>(alloc: Global, change: Change) -> Option<Setting>
+    requires { Change.IsAlwaysCallable change }
+{
     let mut pace = Recommended::new(alloc, 8, Duration::from_secs(60)).pace;
     change(&mut pace);
     pace.fault(&limits())

@@ -15,13 +15,12 @@ fn rate() -> Rate {
 
 // Takes of the tested bucket as long as there is one, and returns how many there were.
 fn taken(bucket: &mut Bucket, millis: u64) -> u32 {
-    let mut count = 0;
-    for _ in 0..10 {
-        if bucket.take(rate(), Duration::from_millis(millis)) {
-            count += 1;
+    for count in 0..10 {
+        if !bucket.take(rate(), Duration::from_millis(millis)) {
+            return count;
         }
     }
-    count
+    10
 }
 
 // How many are taken at once at the start, then 9 ms, 10 ms, 30 ms and 100 ms later.
