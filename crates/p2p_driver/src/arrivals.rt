@@ -113,7 +113,8 @@ impl<K: Copy> Arrivals<K> {
             Room::Of(crowded) => {
                 self.streams.reserve(1)?;
                 remove(&mut self.streams, crowded);
-                self.streams.push_reserved(Arrival::new(number, origin, now));
+                self.streams
+                    .push_reserved(Arrival::new(number, origin, now));
             }
         }
         Ok(room)
@@ -179,12 +180,7 @@ fn remove<K: Copy>(streams: &mut Vec<Arrival<K>>, number: u64)
 }
 
 // Whether there is room for a stream that comes from the origin.
-fn room_for<K: Copy>(
-    streams: &[Arrival<K>],
-    origin: Origin,
-    pace: &Pace,
-    now: Duration,
-) -> Room
+fn room_for<K: Copy>(streams: &[Arrival<K>], origin: Origin, pace: &Pace, now: Duration) -> Room
     ensures { result ≡ room_of pace.now (as_nanos now) streams.now origin }
 {
     if pace.by_address <= count_of(streams, origin) {
@@ -212,11 +208,7 @@ fn count_of<K: Copy>(arrivals: &[Arrival<K>], origin: Origin) -> usize
 // The number of the stream that gives way to a new one, if one does. Of those that came longer ago
 // than `grace` it is one of an origin that has most of these, first one that hasn't claimed, and of
 // these the oldest.
-fn crowded<K: Copy>(
-    arrivals: &[Arrival<K>],
-    grace: Duration,
-    now: Duration,
-) -> Option<u64>
+fn crowded<K: Copy>(arrivals: &[Arrival<K>], grace: Duration, now: Duration) -> Option<u64>
     ensures { result ≡ crowded_of (as_nanos grace) (as_nanos now) arrivals.now }
 {
     let most = greatest(arrivals, grace, now);
@@ -244,11 +236,7 @@ fn late<K: Copy>(
 }
 
 // The moment, in nanoseconds, at which the first of the streams is late.
-fn next_late<K: Copy>(
-    arrivals: &[Arrival<K>],
-    first: Duration,
-    handshake: Duration,
-) -> Option<u128>
+fn next_late<K: Copy>(arrivals: &[Arrival<K>], first: Duration, handshake: Duration) -> Option<u128>
     ensures { IsLeastDeadline (as_nanos first) (as_nanos handshake) arrivals.now result }
 {
     let mut next = None;

@@ -19,4 +19,4 @@ returns-in_ok-reserve-in-Of-clause-taken g c =
     let new = arrival_of c.args.number c.args.origin c.args.now in
     c.push_reserved.ensures.items ∙ ap (λ n. c.remove.new.streams.items ++ n ∷ []) c.new-in-Of.ensures
     ∙ ap (λ xs. xs ++ new ∷ []) (c.remove.ensures.items ∙ ap (filter (λ a. not (has_number c.in-Of.crowded a)))
-        (c.in_ok-reserve-in-Of.ensures.items ∙ c.self.view_is))
+    (c.in_ok-reserve-in-Of.ensures.items ∙ c.self.view_is))

@@ -4,10 +4,8 @@ use Rattle.std.specs.Int.NonZero.{non_zero_u32_get}
 use Rattle.p2p_driver.proofs.Kept.{allowed, refused}
 use Rattle.p2p_driver.proofs.rate.Bucket.next.Goals as goal
 
--- the first moment, by the rate
-is : (c : goal.After-saturating_sub) → c.saturating_sub.result ≡
-    c.args.self.now.full_at - (non_zero_u32_get c.args.rate.burst - 1) * as_nanos c.args.rate.refill
-is c = c.saturating_sub.ensures
+pub returns-clause-value : goal.returns-clause-value
+returns-clause-value c = c.saturating_sub.ensures
     ∙ ap (λ n. c.args.self.now.full_at - n) (ap (λ b. (b - 1) * c.as_nanos.result) c.get.ensures.value
     ∙ ap (λ a. (non_zero_u32_get c.args.rate.burst - 1) * a) c.as_nanos.ensures)
 
@@ -15,13 +13,10 @@ pub returns-clause-allowed : goal.returns-clause-allowed
 returns-clause-allowed c happened now kept late =
     allowed (non_zero_u32_get c.args.rate.burst) (as_nanos c.args.rate.refill)
     (grind (arith, c.get.ensures.value, c.get.ensures.nonzero)) happened _ now kept
-    (subst (λ m. m ≤ now) (is c) late)
+    (subst (λ m. m ≤ now) (returns-clause-value c) late)
 
 pub returns-clause-refused : goal.returns-clause-refused
 returns-clause-refused c happened now kept early =
     refused (non_zero_u32_get c.args.rate.burst) (as_nanos c.args.rate.refill)
     (grind (arith, c.get.ensures.value, c.get.ensures.nonzero)) happened _ now kept
-    (subst (λ m. now < m) (is c) early)
-
-pub returns-clause-value : goal.returns-clause-value
-returns-clause-value c = is c
+    (subst (λ m. now < m) (returns-clause-value c) early)
