@@ -3,3 +3,4 @@ pub mod Firsts
 pub mod Least
 pub mod Greatest
 pub mod Crowded
+pub mod Fairness

@@ -1,5 +1,5 @@
 -- The inbound streams whose key isn't proved yet. Moments and durations are nanoseconds.
-use Rattle.std.specs.Prelude.{ℕ, ◌≡◌, ◌==◌, ◌≤◌, ◌+◌, ◌-◌, ◌&&◌, ◌||◌, if◌then◌else◌, find, not, nat_le, nat_lt, min, Bool}
+use Rattle.std.specs.Prelude.{ℕ, ◌≡◌, ◌==◌, ◌≤◌, ◌<◌, ◌+◌, ◌-◌, ◌&&◌, ◌||◌, if◌then◌else◌, find, not, nat_le, nat_lt, min, Bool}
 use Rattle.std.specs.Prelude.{List, [], ◌∷◌, ◌++◌, length, Option, Some, None, is_some, option_map}
 use Rattle.std.specs.Duration.{as_nanos}
 use Rattle.std.specs.List.{count_by, filter, list_all, slice_get}
@@ -99,3 +99,14 @@ module _ {K : Type 0} where
   arrived new room.Free arrivals = arrivals ++ new ∷ []
   arrived new (room.Of number) arrivals =
       filter (λ a. not (has_number number a)) arrivals ++ new ∷ []
+
+-- LAWS
+module _ {K : Type 0} (grace now : ℕ) (arrivals : List (Arrival K)) where
+  -- one of them has the number, and came longer ago than the grace
+  abbrev pub Gives : ℕ → Type 0
+  Gives n = (k : ℕ) × (a : Arrival K) × (slice_get arrivals k ≡ Some a) × (a.number ≡ n)
+      × (grace < now - as_nanos a.came)
+
+  -- all of them came within the grace
+  abbrev pub AreYoung : Type 0
+  AreYoung = (k : ℕ) (a : Arrival K) → slice_get arrivals k ≡ Some a → now - as_nanos a.came ≤ grace

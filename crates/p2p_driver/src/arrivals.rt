@@ -9,6 +9,8 @@ ghost use Rattle.p2p_driver.specs.Arrivals.{count_older, crowded_of, deadline_of
 ghost use Rattle.std.specs.Prelude.{IfOk, OnErr, [], ◌≤◌, vec_len, vec_capacity};
 ghost use Rattle.std.specs.List.{filter};
 ghost use Rattle.p2p_driver.specs.Arrivals.{lesser_of, gives_way, arrival_of, room_of, arrived};
+ghost use Rattle.p2p_driver.specs.Arrivals.{Gives, AreYoung};
+ghost use Rattle.std.specs.Prelude.{ℕ, List, ◌<◌, length};
 
 use crate::origin::Origin;
 use crate::pace::Pace;
@@ -348,3 +350,26 @@ fn gives_way<K: Copy>(
         && most <= count_older(arrivals, arrival.origin, grace, now)
         && (all || arrival.claim.is_none())
 }
+
+/// By laws of inbound streams, whatever came before:
+///
+/// - One that gives way came longer ago than `grace`.
+/// - A stream that is refused has an origin with `by_address` streams, or all streams came within
+///   `grace`: nobody is kept out by idle streams of others.
+/// - There are at most `arrivals` streams, if there were before.
+/// - There are at most `by_address` streams of each origin, if there were before.
+pub fn streams_have_room<K: Copy>()
+    ensures spared { (pace : Pace) (now : ℕ) (arrivals : List (Arrival K)) (origin : Origin) (n : ℕ) →
+        room_of pace now arrivals origin ≡ Room.Of n → Gives (as_nanos pace.grace) now arrivals n }
+    ensures let_in { (pace : Pace) (now : ℕ) (arrivals : List (Arrival K)) (origin : Origin) →
+        room_of pace now arrivals origin ≡ Room.None →
+        count_by (is_of origin) arrivals < pace.by_address →
+        AreYoung (as_nanos pace.grace) now arrivals }
+    ensures bounded { (pace : Pace) (now : ℕ) (arrivals : List (Arrival K)) (new : Arrival K) →
+        length arrivals ≤ pace.arrivals →
+        length (arrived new (room_of pace now arrivals new.origin) arrivals) ≤ pace.arrivals }
+    ensures of_one { (pace : Pace) (now : ℕ) (arrivals : List (Arrival K)) (new : Arrival K) →
+        ((origin : Origin) → count_by (is_of origin) arrivals ≤ pace.by_address) →
+        (origin : Origin) → count_by (is_of origin)
+        (arrived new (room_of pace now arrivals new.origin) arrivals) ≤ pace.by_address }
+{}
