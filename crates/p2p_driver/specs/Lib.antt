@@ -4,3 +4,4 @@ pub mod Paces
 pub mod Recommended
 pub mod Origins
 pub mod Arrivals
+pub mod Digests

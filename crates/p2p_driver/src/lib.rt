@@ -5,6 +5,7 @@
 
 pub mod arrivals;
 mod channels;
+pub mod digest;
 pub mod origin;
 pub mod pace;
 pub mod rate;

@@ -159,3 +159,20 @@ fn channels_have_their_conditions(rt: HostRuntime) -> Result<(), Fail> {
     }
     Ok(())
 }
+
+// The digests of settings for eight peers, and of these with a channel, worked out from the words:
+// 8, 9, 1000, 9, 30, 0, 120, 0, then 0, or 1 and 7, 100, 3, 1, 500000000.
+fn digests(alloc: Global) -> Result<[u64; 2], AllocError> {
+    let mut pace = Recommended::new(alloc, 8, Duration::from_secs(60)).pace;
+    let none = pace.digest(&limits());
+    let mut channel = channel(7, 100, 3, 0);
+    channel.refill = Duration::from_millis(1_500);
+    pace.channels.push(channel)?;
+    Ok([none, pace.digest(&limits())])
+}
+
+#[test]
+fn a_digest_is_of_what_nodes_share(rt: HostRuntime) -> Result<(), Fail> {
+    assert!(rt; digests(rt.alloc())? == [12570511863230608696, 8989683541890963560]);
+    Ok(())
+}

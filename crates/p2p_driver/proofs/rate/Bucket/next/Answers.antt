@@ -1,4 +1,4 @@
-use Rattle.std.proofs.Common.{◌≡◌, ◌≤◌, ◌<◌, ◌-◌, ◌*◌, arith, subst, ◌∙◌, ap}
+use Rattle.std.proofs.Common.{◌≤◌, ◌<◌, ◌-◌, ◌*◌, arith, subst, ◌∙◌, ap}
 use Rattle.std.specs.Duration.{as_nanos}
 use Rattle.std.specs.Int.NonZero.{non_zero_u32_get}
 use Rattle.p2p_driver.proofs.Kept.{allowed, refused}
