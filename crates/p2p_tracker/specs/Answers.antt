@@ -4,6 +4,7 @@ use Rattle.std.specs.Prelude.{if◌then◌else◌, List, [], map, length, zip, f
 use Rattle.std.specs.Prelude.{Some, None, option_map, nat_lt, nat_le, ◌==◌}
 use Rattle.std.specs.List.{slice_get, last_or}
 use Rattle.p2p_discovery.specs.declared.discovery.Info.{Info}
+use Rattle.p2p_discovery.specs.declared.types.ingress.Ingress.{Ingress}
 use Rattle.p2p_tracker.specs.declared.record.Status.{Status}
 use Rattle.p2p_tracker.specs.Calls.{Settings, SetAt, Direction, Cooldown, Event}
 use Rattle.p2p_tracker.specs.declared.record.Status.TheVariants.{Active}
@@ -15,7 +16,7 @@ use Rattle.p2p_tracker.specs.Moments.{epoch_millis}
 use Rattle.p2p_tracker.specs.PeerSets.{set_with, latest_index}
 use Rattle.p2p_tracker.specs.Blocks.{IsAnyUntil, is_blocked}
 use Rattle.p2p_tracker.specs.Lists.{Lists, IsLeastOf}
-use Rattle.p2p_tracker.specs.World.{World, Peer, is_target}
+use Rattle.p2p_tracker.specs.World.{World, Peer, is_target, may_listen, address_with}
 use Rattle.p2p_tracker.specs.Cooldowns.{dialable_from}
 
 -- WHAT AN EVENT DID
@@ -162,6 +163,10 @@ module _ {C S : Type 0} (s : Settings C S) where
   abbrev pub is_acceptable_at : World C S → C → ℕ → Bool
   is_acceptable_at w p t = is_eligible_at w p t && is_inert (w.peer p).status
 
+  -- `may_listen`: a listen of p at t is granted
+  abbrev pub may_listen_at : World C S → C → ℕ → Bool
+  may_listen_at w p t = may_listen s p t w.sets (w.peer p) (w.unblock p) (w.cooldown p)
+
   -- WANT AND BITS
 
   -- no info, or not active and too many failures
@@ -196,6 +201,16 @@ module _ {C S : Type 0} (s : Settings C S) where
   -- `info`
   abbrev pub sharable_info : World C S → C → Option (Info C S)
   sharable_info w p = sharable_of p (w.peer p)
+
+  -- the address of a present peer: the own one, else that of its info, else the last one that the
+  -- bootstrappers give it
+  abbrev pub ingress_with : C → Peer C S → Option Ingress
+  ingress_with p peer =
+      if is_own s p then Some s.own.ingress else address_with s p peer.known.info
+
+  -- `ingress`: that of a present peer, whether or not it may be dialled
+  abbrev pub held_ingress : World C S → C → Option Ingress
+  held_ingress w p = if is_present_in w p then ingress_with p (w.peer p) else None
 
   -- of a peer with its bit: its sharable info, where the bit is 0 and the timestamp isn't above
   -- these milliseconds

@@ -317,7 +317,7 @@ module _ {C S : Type 0} (cmp : C → C → Ordering) where
   may_dial_in d now q =
       is_free_and (may_be_dialled now d.config.allow_private_ips d.config.allow_dns) d now q
 
-  -- where a peer is reached, if that is known
+  -- where a peer that has a record is reached, if that is known
   abbrev pub ingress_in : DirectoryView C S → C → Option Ingress
   ingress_in d q = option_and_then (λ r. ingress_of r.address) (record_of cmp d q)
 

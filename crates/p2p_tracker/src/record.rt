@@ -11,7 +11,7 @@ ghost use Rattle.p2p_tracker.specs.Record.{is_eligible, is_deletable, needs_tear
 ghost use Rattle.p2p_tracker.specs.Record.{is_outbound_target, after_failure, after_success};
 ghost use Rattle.p2p_tracker.specs.Record.{is_myself, takes_info, address_after_update, wants_info};
 ghost use Rattle.p2p_tracker.specs.Record.{sharable_by, ingress_of, dial_view, dial_status};
-ghost use Rattle.p2p_tracker.specs.Record.{is_acceptable};
+ghost use Rattle.p2p_tracker.specs.Record.{is_acceptable, may_come};
 
 mod counts;
 mod dialing;
@@ -337,6 +337,14 @@ impl<C: PublicKey> Record<C> {
         ensures { result ≡ is_acceptable self.now }
     {
         self.eligible() && self.status == Status::Inert
+    }
+
+    // Whether an inbound connection of the record's peer is granted a reservation at the time
+    // `now`: it is eligible and inert, and its reservable time has come.
+    pub(crate) fn may_come(&self, now: Duration) -> bool
+        ensures { result ≡ may_come (as_nanos now) self.now }
+    {
+        self.eligible() && self.reserve_result(now) == ReserveResult::Reserved
     }
 
     /// Whether the record's peer must be disconnected: it is not inert and not eligible.

@@ -1,7 +1,8 @@
 //! Reservations as callers of a directory use them.
 
-use crate::fixtures::{found_in, ingress, tracked};
+use crate::fixtures::{found_in, info, ingress, tracked};
 use p2p_discovery::codec::TestKey;
+use p2p_discovery::discovery::Info;
 use p2p_discovery::types::Ingress;
 use p2p_tracker::directory::{Directory, Metadata, TrackedPeers};
 use p2p_tracker::record::Status;
@@ -83,5 +84,93 @@ fn a_reservation_names_its_peer(rt: HostRuntime) -> Result<(), Fail> {
         accepts_peer_two(directory, now)
     })?;
     assert!(rt; dialled && listened);
+    Ok(())
+}
+
+// What `may_listen` of the tested directory says of the peer at this many seconds, and what
+// `listen` does then. What is granted is released at once.
+fn listens(
+    directory: &mut Directory<TestKey>,
+    key: u64,
+    seconds: u64,
+) -> Result<(bool, bool), AllocError> {
+    let now = Duration::from_secs(seconds);
+    let told = directory.may_listen(&TestKey(key), now);
+    let Some(reservation) = directory.listen(&TestKey(key), now, Duration::ZERO)? else {
+        return Ok((told, false));
+    };
+    directory.release(reservation);
+    Ok((told, true))
+}
+
+// Whether the tested directory says that a peer may listen just where it lets it: neither a
+// stranger, nor the local node, nor peer 1 within its cooldown, while it is blocked, or reserved.
+fn says_whom_it_lets(directory: &mut Directory<TestKey>) -> Result<bool, AllocError> {
+    let others = listens(directory, 2, 100)? == (false, false)
+        && listens(directory, 9, 100)? == (false, false);
+    let cooled = listens(directory, 1, 100)? == (true, true)
+        && listens(directory, 1, 109)? == (false, false)
+        && listens(directory, 1, 110)? == (true, true);
+    let blocked = directory.block(&TestKey(1), Duration::from_secs(120))?
+        && listens(directory, 1, 179)? == (false, false);
+    let now = Duration::from_secs(180);
+    let is_free = directory.may_listen(&TestKey(1), now);
+    let Some(reservation) = directory.listen(&TestKey(1), now, Duration::ZERO)? else {
+        return Ok(false);
+    };
+    let is_busy = !directory.may_listen(&TestKey(1), Duration::from_secs(200));
+    directory.release(reservation);
+    Ok(others && cooled && blocked && is_free && is_busy)
+}
+
+#[test]
+fn who_may_listen_is_let_in(rt: HostRuntime) -> Result<(), Fail> {
+    let told = found_in(rt.alloc(), &[(1, 8001)], says_whom_it_lets)?;
+    assert!(rt; told);
+    Ok(())
+}
+
+// Whether the tested directory holds the address 1.2.3.4 with this port of the peer, or none.
+fn is_held_at(
+    directory: &Directory<TestKey>,
+    key: u64,
+    port: Option<u16>,
+) -> Result<bool, AllocError> {
+    Ok(match (directory.ingress(&TestKey(key))?, port) {
+        (Some(held), Some(port)) => held == ingress(port),
+        (None, None) => true,
+        _ => false,
+    })
+}
+
+// Whether the tested directory tells each address that it holds: of the local node, and of peer 1
+// before and after an info of it, while it is reserved too. Of peer 2 none is known.
+fn tells_addresses(
+    directory: &mut Directory<TestKey>,
+    first: TrackedPeers<TestKey>,
+    infos: Vec<Info<TestKey>>,
+) -> Result<bool, AllocError> {
+    let is_tracked = directory.track(0, first)?.is_some();
+    let before = is_held_at(directory, 1, Some(8001))? && is_held_at(directory, 2, None)?;
+    directory.update_peers(infos);
+    let now = Duration::from_secs(100);
+    let Some(reservation) = directory.listen(&TestKey(1), now, Duration::ZERO)? else {
+        return Ok(false);
+    };
+    let busy = is_held_at(directory, 1, Some(8011));
+    directory.release(reservation);
+    let others = is_held_at(directory, 9, Some(8000))? && is_held_at(directory, 3, None)?;
+    Ok(is_tracked && before && busy? && others)
+}
+
+#[test]
+fn each_address_is_told(rt: HostRuntime) -> Result<(), Fail> {
+    let alloc = rt.alloc();
+    let (first, mut infos) = (tracked(alloc, &[1, 2])?, Vec::new(alloc));
+    infos.push(info(1, 8011, 1_000))?;
+    let told = found_in(alloc, &[(1, 8001)], |directory| {
+        tells_addresses(directory, first, infos)
+    })?;
+    assert!(rt; told);
     Ok(())
 }

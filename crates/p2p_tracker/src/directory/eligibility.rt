@@ -13,6 +13,7 @@ use std::time::Duration;
 impl<C: PublicKey> Directory<C> {
     ghost use Rattle.p2p_tracker.specs.Dials.{IsBefore};
     ghost use Rattle.p2p_tracker.specs.Directory.{is_free_and, is_dialable_in, AreDialableIn};
+    ghost use Rattle.p2p_tracker.specs.Directory.{may_listen_in};
     ghost use Rattle.p2p_tracker.specs.Lists.{Somebody};
     ghost use Rattle.p2p_tracker.specs.Record.{is_eligible, is_acceptable};
 
@@ -44,6 +45,23 @@ impl<C: PublicKey> Directory<C> {
     {
         match self.records.get(peer) {
             Some(found) => !self.is_blocked(peer, now) && found.acceptable(),
+            None => false,
+        }
+    }
+
+    /// Whether [`Directory::listen`] grants the peer a reservation in the directory at the time
+    /// `now`, a duration since the epoch, if memory suffices. It does if the peer is not blocked,
+    /// eligible and inert, and its reservable time is not after `now`. False if there is no record.
+    /// It doesn't allocate.
+    ///
+    /// # Cost
+    ///
+    /// One search among the records, and if there is a record, one among the blocks.
+    pub fn may_listen(&self, peer: &C, now: Duration) -> bool
+        ensures { result ≡ may_listen_in C.cmp self.now (as_nanos now) peer.now }
+    {
+        match self.records.get(peer) {
+            Some(found) => !self.is_blocked(peer, now) && found.may_come(now),
             None => false,
         }
     }

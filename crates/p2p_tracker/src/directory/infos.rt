@@ -21,6 +21,7 @@ use crate::record::Record;
 use p2p_discovery::codec::PublicKey;
 use p2p_discovery::discovery::{BitVec, Info};
 use p2p_discovery::sets::{BitMap, OrderedSet};
+use p2p_discovery::types::Ingress;
 use std::alloc::{AllocError, Global};
 use std::cmp::Ordering;
 use std::collections::{BTreeMap, btree_map};
@@ -37,6 +38,7 @@ const FIRST: usize = 32;
 
 impl<C: PublicKey> Directory<C> {
     ghost use Rattle.p2p_tracker.specs.Directory.{IsBusy, sharable_in, infos_in, bit_vec_at};
+    ghost use Rattle.p2p_tracker.specs.Directory.{ingress_in};
 
     /// The info of the peer that the directory may share: that of the local node, and that of a
     /// connected peer. It allocates only for an info whose ingress is a name.
@@ -56,6 +58,32 @@ impl<C: PublicKey> Directory<C> {
     {
         match self.records.get(peer) {
             Some(found) => found.sharable(),
+            None => Ok(None),
+        }
+    }
+
+    /// The address that the directory holds of the peer, whether or not it may be dialled: that of
+    /// its info, else that of the last bootstrapper with its key; of the local node its own. `None`
+    /// if there is no record of the peer, or no address in it. It allocates only for a name.
+    ///
+    /// # Errors
+    ///
+    /// `AllocError` if an allocation fails.
+    ///
+    /// # Cost
+    ///
+    /// One search among the records.
+    pub fn ingress(&self, peer: &C) -> Result<Option<Ingress>, AllocError>
+        ensures ingress { IfOk result (λ ingress. ingress ≡ ingress_in C.cmp self.now peer.now) }
+        ensures none { ingress_in C.cmp self.now peer.now ≡ None → IsOk result }
+        ensures socket { IfSome (ingress_in C.cmp self.now peer.now)
+            (λ ingress. takes_none ingress ≡ true → IsOk result) }
+    {
+        match self.records.get(peer) {
+            Some(found) => match found.ingress() {
+                Some(ingress) => Ok(Some(ingress.clone()?)),
+                None => Ok(None),
+            },
             None => Ok(None),
         }
     }
