@@ -20,6 +20,7 @@ use Rattle.p2p_tracker.specs.Calls.{Settings, SetAt, Question, Call, Event}
 use Rattle.p2p_tracker.specs.Calls.Question.{StatusOf, NumberTracked, NextUnblock, BlockedAt}
 use Rattle.p2p_tracker.specs.Calls.Question.{PeerSet, LatestIndex, AllPeers, LatestUpdate, InfoOf}
 use Rattle.p2p_tracker.specs.Calls.Question.{InfosFor, BitsAt, IsEligible, IsAcceptable, DialableAt}
+use Rattle.p2p_tracker.specs.Calls.Question.{IngressOf, MayListen}
 use Rattle.p2p_tracker.specs.Calls.Call.{Track, Dial, Listen, Connect, Release, Update, Block}
 use Rattle.p2p_tracker.specs.Calls.Call.{UnblockExpired, ForgetCooled, Ask}
 use Rattle.p2p_tracker.specs.PeerSets.{has_peers}
@@ -33,7 +34,7 @@ use Rattle.p2p_tracker.specs.Answers.{set_with_index, set_at_place, latest_index
 use Rattle.p2p_tracker.specs.Answers.{AreAll, IsLatestUpdate, sharable_info, infos_for}
 use Rattle.p2p_tracker.specs.Answers.{is_blocked_at, AreBlocked, IsNextUnblock, IsAnyExpired}
 use Rattle.p2p_tracker.specs.Answers.{IsNumberCooled, is_eligible_at, is_acceptable_at, is_dialable}
-use Rattle.p2p_tracker.specs.Answers.{IsDialable}
+use Rattle.p2p_tracker.specs.Answers.{IsDialable, held_ingress, may_listen_at}
 use Rattle.p2p_tracker.specs.Seen.{peers_of, set_in}
 use Rattle.p2p_directory.specs.Refinement.{metadata_of}
 
@@ -73,10 +74,12 @@ call_of command.LatestSetIndex = Ask LatestIndex
 call_of command.LatestUpdate = Ask LatestUpdate
 call_of command.All = Ask AllPeers
 call_of (command.Info p) = Ask (InfoOf p)
+call_of (command.Ingress p) = Ask (IngressOf p)
 call_of (command.Infos v now) = Ask (InfosFor v.index v.bits (as_nanos now))
 call_of (command.GetRandomBitVec place) = Ask (BitsAt place)
 call_of (command.Eligible p now) = Ask (IsEligible p (as_nanos now))
 call_of (command.Acceptable p now) = Ask (IsAcceptable p (as_nanos now))
+call_of (command.MayListen p now) = Ask (MayListen p (as_nanos now))
 call_of (command.Dialable now) = Ask (DialableAt (as_nanos now))
 call_of command.Tracked = Ask NumberTracked
 
@@ -121,11 +124,13 @@ module _ {C S : Type 0} (s : Settings C S) where
   Informs w LatestUpdate (reply.LatestUpdate update) =
       IsLatestUpdate s w (option_map update_in update)
   Informs w (InfoOf p) r = r ≡ reply.Info (sharable_info s w p)
+  Informs w (IngressOf p) r = r ≡ reply.Ingress (held_ingress s w p)
   Informs w (InfosFor index bits t) (reply.Infos infos) =
       option_map (λ v. v.items) infos ≡ infos_for s w index bits t
   Informs w (BitsAt place) r = r ≡ reply.GetRandomBitVec (bit_vec_in w place)
   Informs w (IsEligible p t) r = r ≡ reply.Eligible (is_eligible_at s w p t)
   Informs w (IsAcceptable p t) r = r ≡ reply.Acceptable (is_acceptable_at s w p t)
+  Informs w (MayListen p t) r = r ≡ reply.MayListen (may_listen_at s w p t)
   Informs w (DialableAt t) (reply.Dialable answer) =
       IsDialable s w t answer.peers.items (option_map as_nanos answer.next_query_at)
   Informs w _ r = ⊥
@@ -145,8 +150,8 @@ module _ {C S : Type 0} (s : Settings C S) where
   Replies e w v (Ask question) r = Informs w question r
   Replies e w v _ r = ⊥
 
-  -- which questions may want memory: for an info, infos or bits where there are some, and for a
-  -- list or the peers of a set where somebody is listed
+  -- which questions may want memory: for a name, in an info or as an address, for infos or bits
+  -- where there are some, and for a list or the peers of a set where somebody is listed
   abbrev pub MayWantToTell : World C S → Question C → Type 0
   MayWantToTell w (BlockedAt t) = Somebody (is_blocked_at s w t)
   MayWantToTell w (PeerSet index) =
@@ -154,6 +159,7 @@ module _ {C S : Type 0} (s : Settings C S) where
   MayWantToTell w LatestUpdate = Somebody (λ p. is_named s p w.sets)
   MayWantToTell w AllPeers = Somebody (λ p. is_named s p w.sets)
   MayWantToTell w (InfoOf p) = IsSomeAnd (sharable_info s w p) (λ i. takes_none i.ingress ≡ false)
+  MayWantToTell w (IngressOf p) = IsSomeAnd (held_ingress s w p) (λ a. takes_none a ≡ false)
   MayWantToTell w (InfosFor index bits t) =
       IsSomeAnd (infos_for s w index bits t) (λ infos. 0 < length infos)
   MayWantToTell w (BitsAt place) = is_some (set_at_place s w place) ≡ true

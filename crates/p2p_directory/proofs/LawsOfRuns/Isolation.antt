@@ -21,7 +21,7 @@ use Rattle.p2p_directory.proofs.Definitions.Law
 use Rattle.p2p_directory.proofs.Definitions.Steps.{Makes, makes}
 use Rattle.std.specs.Option.{option_map, option_map_or, IsSomeAnd}
 use Rattle.p2p_discovery.specs.Ingress.{takes_none}
-use Rattle.p2p_tracker.specs.Calls.Question.{StatusOf, InfoOf, IsEligible, IsAcceptable, DialableAt}
+use Rattle.p2p_tracker.specs.Calls.Question.{StatusOf, InfoOf, IngressOf, IsEligible, IsAcceptable, MayListen, DialableAt}
 use Rattle.p2p_tracker.specs.declared.record.dialing.Dialable.{Dialable}
 use Rattle.p2p_tracker.specs.Answers.{was_granted, was_blocked, was_taken, is_torn_down, is_dialable}
 use Rattle.p2p_directory.specs.Run
@@ -224,11 +224,13 @@ module _ {C S : Type 0} (s : Settings C S) where
     present = λ i. History.is_present_with s p (a.sets i) (a.peer i).status;
     status = λ i. if History.is_present_with s p (a.sets i) (a.peer i).status then Some (a.peer i).status else None;
     info = λ i. Answers.sharable_of s p (a.peer i);
+    ingress = λ i. if History.is_present_with s p (a.sets i) (a.peer i).status then Answers.ingress_with s p (a.peer i) else None;
     wanted = λ i. Answers.wants s p (a.peer i);
     blocked = λ t i. is_blocked (a.unblock i) t;
     cooled = λ t i. Answers.is_cooled_by t (a.cooldown i);
     eligible = λ t i. History.is_entitled s p (a.sets i) && not (is_blocked (a.unblock i) t);
     acceptable = λ t i. History.is_entitled s p (a.sets i) && not (is_blocked (a.unblock i) t) && is_inert (a.peer i).status;
+    may_listen = λ t i. World.may_listen s p t (a.sets i) (a.peer i) (a.unblock i) (a.cooldown i);
     dialable = λ t i. Answers.is_dialable_with s p t (a.sets i) (a.peer i) (a.unblock i) (a.cooldown i);
     query = λ t i. if is_blocked (a.unblock i) t then (if History.is_present_with s p (a.sets i) (a.peer i).status then a.unblock i else None)
         else if World.is_target s p (a.sets i) (a.peer i) && nat_lt t (dialable_from (a.cooldown i)) then Some (dialable_from (a.cooldown i))
@@ -262,12 +264,19 @@ module _ {C S : Type 0} (s : Settings C S) where
       let b = subst (λ x. SameFor x w v) (sym (exact p q mine)) alike in
       let info = (answers_alike s exact p w v b).info in
       moved e e w w2 v v2 (Ask (InfoOf p)) r (λ x. subst (λ o. IsSomeAnd o (λ i. takes_none i.ingress ≡ false)) info x) (λ x. x ∙ ap reply.Info info) a
+  question_alike e q w v w2 v2 (IngressOf p) r alike mine exact a =
+      let b = subst (λ x. SameFor x w v) (sym (exact p q mine)) alike in
+      let ingress = (answers_alike s exact p w v b).ingress in
+      moved e e w w2 v v2 (Ask (IngressOf p)) r (λ x. subst (λ o. IsSomeAnd o (λ a. takes_none a ≡ false)) ingress x) (λ x. x ∙ ap reply.Ingress ingress) a
   question_alike e q w v w2 v2 (IsEligible p t) r alike mine exact a =
       let b = subst (λ x. SameFor x w v) (sym (exact p q mine)) alike in
       moved e e w w2 v v2 (Ask (IsEligible p t)) r (λ x. x) (λ x. x ∙ ap reply.Eligible ((answers_alike s exact p w v b).eligible t)) a
   question_alike e q w v w2 v2 (IsAcceptable p t) r alike mine exact a =
       let b = subst (λ x. SameFor x w v) (sym (exact p q mine)) alike in
       moved e e w w2 v v2 (Ask (IsAcceptable p t)) r (λ x. x) (λ x. x ∙ ap reply.Acceptable ((answers_alike s exact p w v b).acceptable t)) a
+  question_alike e q w v w2 v2 (MayListen p t) r alike mine exact a =
+      let b = subst (λ x. SameFor x w v) (sym (exact p q mine)) alike in
+      moved e e w w2 v v2 (Ask (MayListen p t)) r (λ x. x) (λ x. x ∙ ap reply.MayListen ((answers_alike s exact p w v b).may_listen t)) a
   question_alike e q w v w2 v2 question r alike mine exact a = absurd (cc)
 
   -- a call on a single peer that stands alike, where it does the same

@@ -17,7 +17,7 @@ use Rattle.p2p_tracker.specs.World
 use Rattle.p2p_tracker.specs.World.{World, Known, Peer, last_ingress, is_target}
 use Rattle.p2p_tracker.specs.Cooldowns.{reservable_from, dialable_from}
 use Rattle.p2p_tracker.specs.Answers
-use Rattle.p2p_tracker.specs.Answers.{is_present_in, is_dialable, query_moment, IsDialable}
+use Rattle.p2p_tracker.specs.Answers.{is_present_in, is_dialable, query_moment, IsDialable, was_granted}
 use Rattle.p2p_tracker.specs.Record.{DialView, is_grant, may_come, has_valid_ingress, ingress_of, is_dial_candidate}
 use Rattle.p2p_tracker.specs.Record.{may_be_dialled, reserve_answer, dial_status, is_now, later_moment}
 use Rattle.p2p_tracker.specs.Directory.{may_listen_in, may_dial_in, ingress_in, is_dialable_in, query_moment_in, AreDialableIn}
@@ -168,6 +168,11 @@ module _ {C S : Type 0} (s : Settings C S) where
       (λ i. not (is_blocked (stands.blocks p i) t) && option_map_or (may_come t) (stands.records p i) false)
       ∙ shown_may_come s p w.sets (w.cooldown p) (w.peer p) (w.unblock p) t
 
+  -- a listen does what it may
+  granted_is : (p : C) (t draw : ℕ) (granted : Bool) → was_granted (World.listen_event s p t draw granted) ≡ granted
+  granted_is p t draw true = refl
+  granted_is p t draw false = refl
+
   pub tie_may_dial : (w : World C S) (d : DirectoryView C S) (p : C) (t : ℕ) → Refines s w d →
       may_dial_in s.cmp d t p ≡ World.may_dial s p t w.sets (w.peer p) (w.unblock p) (w.cooldown p)
   tie_may_dial w d p t stands =
@@ -289,5 +294,6 @@ module _ {C S : Type 0} (s : Settings C S) where
   answer w d refines = record {
     dialable = λ t ps next. tie_dialable w d t ps next refines;
     listens = λ p t. tie_may_listen w d p t refines;
+    grants = λ p t draw. granted_is p t draw (World.may_listen s p t w.sets (w.peer p) (w.unblock p) (w.cooldown p));
     dials = λ p t. tie_may_dial w d p t refines;
   }

@@ -7,7 +7,7 @@ use Rattle.std.specs.Cmp.{IsTotalOrder}
 use Rattle.std.specs.List.{list_any}
 use Rattle.std.specs.List.Sorted.{IsStrictlySortedBy}
 use Rattle.std.specs.Map.{keys_of}
-use Rattle.std.specs.Option.{option_map, option_map_or}
+use Rattle.std.specs.Option.{option_map, option_map_or, option_and_then}
 use Rattle.std.proofs.lemmas.Bool.Decides.{nat_tests}
 use Rattle.std.proofs.lemmas.Map.Views.{tells_apart}
 use Rattle.std.proofs.Math.Bool.{or-true}
@@ -24,12 +24,12 @@ use Rattle.p2p_tracker.specs.Lists.{first_greatest}
 use Rattle.p2p_tracker.specs.World.{World, Known, Peer, last_ingress, new_known, world_with, status_connected}
 use Rattle.p2p_tracker.specs.Cooldowns.{reservable_from, dialable_from}
 use Rattle.p2p_tracker.specs.World
-use Rattle.p2p_tracker.specs.Answers.{is_present_in, wants, wants_with, active_info, sharable_of, sharable_info, shared_info, infos_for, IsNumberTracked}
+use Rattle.p2p_tracker.specs.Answers.{is_present_in, wants, wants_with, active_info, sharable_of, sharable_info, ingress_with, held_ingress, shared_info, infos_for, IsNumberTracked}
 use Rattle.p2p_tracker.specs.Moments.{epoch_millis}
 use Rattle.p2p_tracker.specs.PeerSets.{set_with}
-use Rattle.p2p_tracker.specs.Record.{is_myself, after_success, address_after_offer, address_after_infos, wants_by, sharable_by}
+use Rattle.p2p_tracker.specs.Record.{is_myself, after_success, address_after_offer, address_after_infos, wants_by, sharable_by, ingress_of}
 use Rattle.p2p_tracker.specs.Seen.{RecordView, DirectoryView, record_of}
-use Rattle.p2p_tracker.specs.Directory.{connected_record, updated_record, infos_of, sharable_in, sharable_of_record, shared_at, infos_in, is_known, bit_vec_at, other_keys, Connects, Updates}
+use Rattle.p2p_tracker.specs.Directory.{connected_record, updated_record, infos_of, sharable_in, sharable_of_record, ingress_in, shared_at, infos_in, is_known, bit_vec_at, other_keys, Connects, Updates}
 use Rattle.p2p_directory.specs.Refinement.{Refines, address_given, address_known, address_of}
 use Rattle.p2p_directory.specs.Run.{bit_vec_of, bit_vec_in}
 use Rattle.p2p_tracker.proofs.SetsAndRecords.Listing.{listed_by_value}
@@ -270,6 +270,35 @@ module _ {C S : Type 0} (s : Settings C S) where
           let parts = absent_parts s (is_own s p) (list_any (λ b. same s b.0 p) s.bootstrappers) (is_named s p w.sets) (is_inert peer.status) e in
           sym (λ i. if parts.0 i then Some s.own else active_info s (inert_only s peer.status parts.2 i) peer.known.info)
 
+  -- the address that is held of a present peer
+  held_given : (given : Option Ingress) → ingress_of {C = C} {S = S} (address_given given) ≡ given
+  held_given None = refl
+  held_given (Some ingress) = refl
+
+  held_known : (p : C) (fails : ℕ) (info : Option (Info C S)) →
+      ingress_of (address_known (last_ingress s p s.bootstrappers) fails info) ≡ World.address_with s p info
+  held_known p fails None = held_given (last_ingress s p s.bootstrappers)
+  held_known p fails (Some i) = refl
+
+  pub tie_held_ingress : (w : World C S) (d : DirectoryView C S) (p : C) → Refines s w d → ingress_in s.cmp d p ≡ held_ingress s w p
+  tie_held_ingress w d p stands = ap (option_and_then (λ r. ingress_of r.address)) (stands.records p) ∙ go (is_present_in s w p)
+    where
+      peer : Peer C S
+      peer = w.peer p
+
+      present : (own : Bool) →
+          ingress_of (if own then Myself s.own else address_known (last_ingress s p s.bootstrappers) peer.known.fails peer.known.info)
+          ≡ (if own then Some s.own.ingress else World.address_with s p peer.known.info)
+      present true = refl
+      present false = held_known p peer.known.fails peer.known.info
+
+      go : (b : Bool) →
+          option_and_then (λ r. ingress_of r.address)
+          (if b then Some (record_with s p w.sets (w.cooldown p) peer) else None)
+          ≡ (if b then ingress_with s p peer else None)
+      go true = present (is_own s p)
+      go false = refl
+
   -- of a peer with its bit
   told_alike : (w : World C S) (d : DirectoryView C S) (millis : ℕ) (e : C × Bool) → Refines s w d →
       shared_at s.cmp d.records millis e ≡ shared_info s w millis e
@@ -378,6 +407,7 @@ module _ {C S : Type 0} (s : Settings C S) where
   answer total fits w d forgotten refines = record {
     tracked = tie_tracked total w d refines;
     info = λ p. tie_info w d p refines;
+    ingress = λ p. tie_held_ingress w d p refines;
     infos = λ index bits t. tie_infos w d index bits t refines;
     bits = λ place. tie_bits fits w d place forgotten refines;
   }

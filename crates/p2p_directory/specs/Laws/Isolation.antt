@@ -9,6 +9,7 @@ use Rattle.p2p_tracker.specs.World.{World, event_in}
 use Rattle.p2p_tracker.specs.Answers.{is_present_in, status_in, sharable_info, wants, is_blocked_at}
 use Rattle.p2p_tracker.specs.Answers.{is_eligible_at, is_acceptable_at, is_cooled_at, is_dialable}
 use Rattle.p2p_tracker.specs.Answers.{query_moment, was_taken, is_torn_down}
+use Rattle.p2p_tracker.specs.Answers.{held_ingress, may_listen_at}
 use Rattle.p2p_tracker.specs.declared.record.dialing.Dialable.{Dialable}
 use Rattle.p2p_tracker.specs.Calls.Question.{DialableAt}
 use Rattle.p2p_directory.specs.declared.run.commands.Reply.{Reply}
@@ -47,11 +48,13 @@ module _ {C S : Type 0} (s : Settings C S) where
     pub present : is_present_in s w p ≡ is_present_in s v p
     pub status : status_in s w p ≡ status_in s v p
     pub info : sharable_info s w p ≡ sharable_info s v p
+    pub ingress : held_ingress s w p ≡ held_ingress s v p
     pub wanted : wants s p (w.peer p) ≡ wants s p (v.peer p)
     pub blocked : (t : ℕ) → is_blocked_at s w t p ≡ is_blocked_at s v t p
     pub cooled : (t : ℕ) → is_cooled_at s w t p ≡ is_cooled_at s v t p
     pub eligible : (t : ℕ) → is_eligible_at s w p t ≡ is_eligible_at s v p t
     pub acceptable : (t : ℕ) → is_acceptable_at s w p t ≡ is_acceptable_at s v p t
+    pub may_listen : (t : ℕ) → may_listen_at s w p t ≡ may_listen_at s v p t
     pub dialable : (t : ℕ) → is_dialable s w t p ≡ is_dialable s v t p
     pub query : (t : ℕ) → query_moment s w t p ≡ query_moment s v t p
     pub does : (c : Call C S) → is_on_another s p c ≡ false →

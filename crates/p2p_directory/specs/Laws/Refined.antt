@@ -6,18 +6,21 @@ use Rattle.std.specs.Map.{keys_of}
 use Rattle.p2p_tracker.specs.declared.directory.PeerSetUpdate.{PeerSetUpdate}
 use Rattle.p2p_tracker.specs.declared.directory.TrackedPeers.{TrackedPeers}
 use Rattle.p2p_tracker.specs.Calls.{Settings}
+use Rattle.p2p_tracker.specs.Calls.Call.{Listen}
 use Rattle.p2p_tracker.specs.PeerSets.{latest_index}
 use Rattle.p2p_tracker.specs.Lists.{Lists, IsLeastOf}
 use Rattle.p2p_tracker.specs.Blocks.{IsAnyUntil}
 use Rattle.p2p_tracker.specs.Record.{is_eligible, is_acceptable}
-use Rattle.p2p_tracker.specs.World.{World, may_listen, may_dial}
+use Rattle.p2p_tracker.specs.World.{World, may_dial, event_in}
 use Rattle.p2p_tracker.specs.Answers.{status_in, IsNumberTracked, AreBlocked, IsNextUnblock}
 use Rattle.p2p_tracker.specs.Answers.{IsAnyExpired, IsNumberCooled, set_with_index, latest_index_in}
 use Rattle.p2p_tracker.specs.Answers.{AreAll, IsLatestUpdate, sharable_info, infos_for}
+use Rattle.p2p_tracker.specs.Answers.{held_ingress, may_listen_at, was_granted}
 use Rattle.p2p_tracker.specs.Answers.{is_eligible_at, is_acceptable_at, IsDialable}
 use Rattle.p2p_tracker.specs.Directory.{other_keys, is_blocked_in, peer_set_in, AreAllOf}
 use Rattle.p2p_tracker.specs.Directory.{IsUpdateOf, sharable_in, infos_in, bit_vec_at, is_free_and}
 use Rattle.p2p_tracker.specs.Directory.{IsNumberCooledIn, AreDialableIn, may_listen_in, may_dial_in}
+use Rattle.p2p_tracker.specs.Directory.{ingress_in}
 use Rattle.p2p_tracker.specs.Seen.{DirectoryView, record_of, unblock_of, peers_of}
 use Rattle.p2p_directory.specs.Run.{bit_vec_in, update_in}
 
@@ -48,21 +51,23 @@ module _ {C S : Type 0} (s : Settings C S) (w : World C S) (d : DirectoryView C 
     pub acceptable : (p : C) (t : ℕ) →
         is_free_and s.cmp is_acceptable d t p ≡ is_acceptable_at s w p t
 
-  -- .. of infos, bits and the number of records
+  -- .. of infos, addresses, bits and the number of records
   pub record KnowledgeAnswersAs : Type 0 where
     pub tracked : IsStrictlySortedBy s.cmp (keys_of d.records) →
         IsNumberTracked s w (length (other_keys d.records))
     pub info : (p : C) → sharable_in s.cmp d p ≡ sharable_info s w p
+    pub ingress : (p : C) → ingress_in s.cmp d p ≡ held_ingress s w p
     pub infos : (index : ℕ) (bits : List Bool) (t : ℕ) →
         infos_in s.cmp d index bits t ≡ infos_for s w index bits t
     pub bits : (place : ℕ) → bit_vec_at s.cmp d place ≡ bit_vec_in s w place
 
-  -- .. of dials and listens
+  -- .. of dials and listens, and `may_listen` tells what `listen` grants
   pub record DialsAnswerAs : Type 0 where
     pub dialable : (t : ℕ) (ps : List C) (next : Option ℕ) → AreDialableIn s.cmp d t ps next →
         IsDialable s w t ps next
-    pub listens : (p : C) (t : ℕ) →
-        may_listen_in s.cmp d t p ≡ may_listen s p t w.sets (w.peer p) (w.unblock p) (w.cooldown p)
+    pub listens : (p : C) (t : ℕ) → may_listen_in s.cmp d t p ≡ may_listen_at s w p t
+    pub grants : (p : C) (t draw : ℕ) →
+        was_granted (event_in s w.sets w (Listen p t draw)) ≡ may_listen_at s w p t
     pub dials : (p : C) (t : ℕ) →
         may_dial_in s.cmp d t p ≡ may_dial s p t w.sets (w.peer p) (w.unblock p) (w.cooldown p)
 

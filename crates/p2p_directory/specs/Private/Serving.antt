@@ -56,6 +56,11 @@ abbrev pub has_slot_for : {C S : Type 0} → (C → C → Ordering) →
     List (C × Option (Metadata C S)) → Command C S → Bool
 has_slot_for cmp slots x = option_map_or (has_slot cmp slots) (reserved_peer x) true
 
+-- the reply to a question of an address
+abbrev pub ingress_reply : {C S E : Type 0} → Result (Option Ingress) E → Reply C S
+ingress_reply (Ok ingress) = reply.Ingress ingress
+ingress_reply (Err e) = reply.OutOfMemory
+
 module _ {C S : Type 0} (s : Settings C S) where
   -- the directory and what is held stand at the point after these calls; the limit is a `usize`
   pub record StandsAt (calls : List (Call C S)) (v : ServerView C S) : Type 0 where

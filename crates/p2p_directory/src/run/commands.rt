@@ -6,6 +6,7 @@ ghost use Rattle.p2p_directory.specs.Private.Serving.{reserved_peer};
 use p2p_discovery::codec::PublicKey;
 use p2p_discovery::discovery::{BitVec, Info};
 use p2p_discovery::sets::OrderedSet;
+use p2p_discovery::types::Ingress;
 use p2p_tracker::directory::{PeerSetUpdate, TrackedPeers};
 use p2p_tracker::record::{Dialable, Status};
 use std::fmt;
@@ -79,6 +80,8 @@ pub enum Command<C: PublicKey> {
     All,
     /// [`Directory::info`] of this peer.
     Info(C),
+    /// [`Directory::ingress`] of this peer.
+    Ingress(C),
     /// [`Directory::infos`] for a peer that sent some bits.
     Infos {
         /// The bits, with the index of their set.
@@ -97,6 +100,13 @@ pub enum Command<C: PublicKey> {
     },
     /// [`Directory::acceptable`] of a peer.
     Acceptable {
+        /// The peer.
+        peer: C,
+        /// The present time, as a duration since the epoch.
+        now: Duration,
+    },
+    /// [`Directory::may_listen`] of a peer.
+    MayListen {
         /// The peer.
         peer: C,
         /// The present time, as a duration since the epoch.
@@ -130,10 +140,12 @@ impl<C: PublicKey> Command<C> {
             | Command::LatestSetIndex
             | Command::All
             | Command::Info(_)
+            | Command::Ingress(_)
             | Command::Infos { .. }
             | Command::GetRandomBitVec(_)
             | Command::Eligible { .. }
             | Command::Acceptable { .. }
+            | Command::MayListen { .. }
             | Command::Dialable(_)
             | Command::Tracked => None,
         }
@@ -178,6 +190,8 @@ pub enum Reply<C: PublicKey> {
     All(TrackedPeers<C>),
     /// The result of [`Directory::info`]: `None` if there is no info that may be shared.
     Info(Option<Info<C>>),
+    /// The result of [`Directory::ingress`]: `None` if no address of the peer is held.
+    Ingress(Option<Ingress>),
     /// The result of [`Directory::infos`]: `None` if the number of bits differs from the number of
     /// primary peers of the set.
     Infos(Option<Vec<Info<C>>>),
@@ -188,6 +202,9 @@ pub enum Reply<C: PublicKey> {
     /// The result of [`Directory::acceptable`]: whether an inbound connection of the peer may be
     /// accepted.
     Acceptable(bool),
+    /// The result of [`Directory::may_listen`]: whether [`Directory::listen`] would grant the peer a
+    /// reservation.
+    MayListen(bool),
     /// The result of [`Directory::dialable`]: who may be dialled, and when to ask again.
     Dialable(Dialable<C>),
     /// The result of [`Directory::tracked`]: how many peers have a record, not counting the local
@@ -227,10 +244,12 @@ fn variant_name<C: PublicKey>(reply: &Reply<C>) -> &'static str {
         Reply::LatestUpdate(_) => "LatestUpdate",
         Reply::All(_) => "All",
         Reply::Info(_) => "Info",
+        Reply::Ingress(_) => "Ingress",
         Reply::Infos(_) => "Infos",
         Reply::GetRandomBitVec(_) => "GetRandomBitVec",
         Reply::Eligible(_) => "Eligible",
         Reply::Acceptable(_) => "Acceptable",
+        Reply::MayListen(_) => "MayListen",
         Reply::Dialable(_) => "Dialable",
         Reply::Tracked(_) => "Tracked",
         Reply::NotReserved => "NotReserved",

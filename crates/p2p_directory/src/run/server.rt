@@ -3,7 +3,7 @@
 ghost use Rattle.std.specs.Prelude.{◌≡◌, true, false, None, is_some};
 ghost use Rattle.p2p_directory.specs.Held.{AreHeld};
 ghost use Rattle.p2p_directory.specs.Private.Slots.{has_slot, held_in, AreSlots};
-ghost use Rattle.p2p_directory.specs.Private.Serving.{has_slot_for, IsServed};
+ghost use Rattle.p2p_directory.specs.Private.Serving.{has_slot_for, ingress_reply, IsServed};
 ghost use Rattle.p2p_directory.specs.Nodes.{TearsDownFew};
 ghost use Rattle.p2p_directory.specs.Run.{was_made};
 
@@ -12,6 +12,7 @@ use crate::run::server::reservations::replied;
 use crate::run::slots::Slots;
 use p2p_discovery::codec::PublicKey;
 use p2p_discovery::discovery::{BitVec, Info};
+use p2p_discovery::types::Ingress;
 use p2p_tracker::directory::{Directory, TrackedPeers};
 use p2p_tracker::record::Status;
 use std::alloc::AllocError;
@@ -79,10 +80,12 @@ impl<C: PublicKey> Server<C> {
             Command::LatestUpdate => self.latest_update(),
             Command::All => self.all(),
             Command::Info(peer) => self.info(&peer),
+            Command::Ingress(peer) => ingress_replied(self.ingress(&peer)),
             Command::Infos { bit_vec, now } => self.infos(&bit_vec, now),
             Command::GetRandomBitVec(place) => self.get_random_bit_vec(place),
             Command::Eligible { peer, now } => Reply::Eligible(self.eligible(&peer, now)),
             Command::Acceptable { peer, now } => Reply::Acceptable(self.acceptable(&peer, now)),
+            Command::MayListen { peer, now } => Reply::MayListen(self.may_listen(&peer, now)),
             Command::Dialable(now) => self.dialable(now),
             Command::Tracked => Reply::Tracked(self.tracked()),
         }
@@ -249,6 +252,14 @@ impl<C: PublicKey> Server<C> {
         }
     }
 
+    /// Asks the server's directory for the address that it holds of the peer.
+    pub fn ingress(&self, peer: &C) -> Result<Option<Ingress>, AllocError>
+        ensures { IsServed C.cmp (Command.Ingress peer.now) (ingress_reply result)
+            self.now self.now }
+    {
+        self.directory.ingress(peer)
+    }
+
     // Asks the server's directory for the infos for a peer that sent the bits.
     fn infos(&self, bit_vec: &BitVec, now: Duration) -> Reply<C>
         ensures { IsServed C.cmp (Command.Infos bit_vec.now now) result self.now self.now }
@@ -285,6 +296,15 @@ impl<C: PublicKey> Server<C> {
         self.directory.acceptable(peer, now)
     }
 
+    /// Asks the server's directory whether an inbound connection of the peer would be granted a
+    /// reservation.
+    pub fn may_listen(&self, peer: &C, now: Duration) -> bool
+        ensures { IsServed C.cmp (Command.MayListen peer.now now) (Reply.MayListen result)
+            self.now self.now }
+    {
+        self.directory.may_listen(peer, now)
+    }
+
     // Asks the server's directory for the peers that may be dialled at this time, and when to ask
     // again.
     fn dialable(&self, now: Duration) -> Reply<C>
@@ -301,5 +321,15 @@ impl<C: PublicKey> Server<C> {
         ensures { IsServed C.cmp Command.Tracked (Reply.Tracked result) self.now self.now }
     {
         self.directory.tracked()
+    }
+}
+
+// The server's reply to a question of an address.
+fn ingress_replied<C: PublicKey>(found: Result<Option<Ingress>, AllocError>) -> Reply<C>
+    ensures { result ≡ ingress_reply found }
+{
+    match found {
+        Ok(ingress) => Reply::Ingress(ingress),
+        Err(AllocError) => Reply::OutOfMemory,
     }
 }
