@@ -1,5 +1,6 @@
--- The reservations that are held, in ascending order of their peers: what each is for.
-use Rattle.std.specs.Prelude.{◌≡◌, not, List, Option, Some, None, find, is_some}
+-- The reservations that are held, in ascending order of their peers: what each is for, and what a
+-- grant and a release make of them.
+use Rattle.std.specs.Prelude.{◌≡◌, not, List, Option, Some, None, find, is_some, if◌then◌else◌}
 use Rattle.std.specs.List.{filter}
 use Rattle.std.specs.declared.cmp.Ordering.{Ordering}
 use Rattle.std.specs.BTreeMap.{is_at}
@@ -35,3 +36,14 @@ module _ {C S : Type 0} (cmp : C → C → Ordering) where
   -- a reservation is held exactly of the peers that are reserved or connected
   abbrev pub AreHeld : DirectoryView C S → (C → Option (Metadata C S)) → Type 0
   AreHeld d held = (q : C) → is_some (held q) ≡ is_busy (record_of cmp d q)
+
+  -- the reservation that p was granted is held then, if it was granted one, and all that was held
+  abbrev pub AddsHeld : (C → Option (Metadata C S)) → (C → Option (Metadata C S)) → C →
+      Option (Metadata C S) → Type 0
+  AddsHeld before after p None = (q : C) → after q ≡ before q
+  AddsHeld before after p (Some metadata) =
+      (q : C) → after q ≡ (if is_at (cmp p) q then Some metadata else before q)
+
+  -- no reservation of p is held then, and of each other peer what was held
+  abbrev pub DropsHeld : (C → Option (Metadata C S)) → (C → Option (Metadata C S)) → C → Type 0
+  DropsHeld before after p = (q : C) → after q ≡ (if is_at (cmp p) q then None else before q)

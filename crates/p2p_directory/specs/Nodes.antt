@@ -6,6 +6,7 @@ use Rattle.std.specs.Prelude.{IfOk, IfSome, OnErr, is_some, slice_get, length, �
 use Rattle.std.specs.BTreeMap.{is_at}
 use Rattle.std.specs.Duration.{as_nanos}
 use Rattle.std.specs.List.{AllByRecursion, list_any}
+use Rattle.std.specs.Option.{IsSomeAnd}
 use Rattle.std.specs.declared.cmp.Ordering.{Ordering}
 use Rattle.p2p_discovery.specs.declared.discovery.Info.{Info}
 use Rattle.p2p_discovery.specs.declared.discovery.Payload.{Payload}
@@ -14,6 +15,7 @@ use Rattle.p2p_discovery.specs.Info.{IsInfo, IsKeyed}
 use Rattle.p2p_discovery.specs.Judgement.{Judge, Verifier, judge_of}
 use Rattle.p2p_discovery.specs.Reading.{Reading, whole}
 use Rattle.p2p_tracker.specs.declared.directory.Metadata.{Metadata}
+use Rattle.p2p_tracker.specs.declared.directory.Metadata.TheVariants as metadata
 use Rattle.p2p_directory.specs.declared.node.received.Received.{Received}
 use Rattle.p2p_directory.specs.declared.node.setup.Setup.{Setup}
 use Rattle.p2p_directory.specs.declared.run.commands.Command.{Command}
@@ -21,12 +23,12 @@ use Rattle.p2p_directory.specs.declared.run.commands.Command.TheVariants as comm
 use Rattle.p2p_directory.specs.declared.run.commands.Reply.{Reply}
 use Rattle.p2p_directory.specs.declared.run.commands.Reply.TheVariants as reply
 use Rattle.p2p_tracker.specs.Calls.{Settings, Call, may_reserve, reserved_by}
-use Rattle.p2p_tracker.specs.Calls.Call.{Update}
+use Rattle.p2p_tracker.specs.Calls.Call.{Dial, Listen, Release, Update}
 use Rattle.p2p_tracker.specs.World.{World}
 use Rattle.p2p_tracker.specs.Answers.{infos_for, set_at_place}
-use Rattle.p2p_tracker.specs.Directory.{Updates, bit_vec_at, infos_in, other_keys}
+use Rattle.p2p_tracker.specs.Directory.{Updates, bit_vec_at, infos_in, other_keys, ingress_in}
 use Rattle.p2p_tracker.specs.Seen.{DirectoryView}
-use Rattle.p2p_directory.specs.Held.{held_of}
+use Rattle.p2p_directory.specs.Held.{held_of, AddsHeld, DropsHeld}
 use Rattle.p2p_directory.specs.Refinement.{Refines}
 use Rattle.p2p_directory.specs.Run.{settings, call_of, world_after, next, bit_vec_in}
 use Rattle.p2p_directory.specs.Run.{IsAnswer, Holds}
@@ -208,6 +210,22 @@ module _ {C S : Type 0} (cmp : C → C → Ordering) where
   KeepsRoom named v v2 = (q : C) → has_slot v2 q ≡ (if is_named cmp named q
       then is_some (held_of cmp v2.held q)
       else has_slot v q)
+
+  -- what a call leaves held, by its reply: a grant adds the reservation of its peer, for a dial at
+  -- the address that the directory has of it; a release drops it; all else leaves what is held
+  abbrev pub LeavesHeld : Call C S → Reply C S → NodeView C S → NodeView C S → Type 0
+  LeavesHeld (Dial p t draw) (reply.Dial true) v v2 = IsSomeAnd (ingress_in cmp v.directory p)
+      (λ ingress. AddsHeld cmp (held_of cmp v.held) (held_of cmp v2.held) p
+      (Some (metadata.Dialer p ingress)))
+  LeavesHeld (Listen p t draw) (reply.Listen true) v v2 =
+      AddsHeld cmp (held_of cmp v.held) (held_of cmp v2.held) p (Some (metadata.Listener p))
+  LeavesHeld (Release p) reply.Release v v2 =
+      DropsHeld cmp (held_of cmp v.held) (held_of cmp v2.held) p
+  LeavesHeld c r v v2 = v2.held ≡ v.held
+
+  -- .. of a command
+  abbrev pub HoldsAfter : Command C S → Reply C S → NodeView C S → NodeView C S → Type 0
+  HoldsAfter x = LeavesHeld (call_of x)
 
 -- a node stands somewhere: there are a setup that it was made from, and calls that it accepted
 pub record StandsSomewhere {C S : Type 0} (cmp : C → C → Ordering) (v : NodeView C S) : Type 0 where

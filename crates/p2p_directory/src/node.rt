@@ -6,7 +6,7 @@ ghost use Rattle.p2p_directory.specs.Held.{held_of, AreHeld, ReleasesAll};
 ghost use Rattle.p2p_directory.specs.Run.{was_made};
 ghost use Rattle.p2p_discovery.specs.Info.{IsInfo, IsKeyed};
 ghost use Rattle.p2p_directory.specs.Nodes.{NodeStandsAt, made_of, IsStepped, StandsSomewhere};
-ghost use Rattle.p2p_directory.specs.Nodes.{IsSame, KeepsRoom, has_slot, named_peer};
+ghost use Rattle.p2p_directory.specs.Nodes.{HoldsAfter, IsSame, KeepsRoom, has_slot, named_peer};
 ghost use Rattle.p2p_directory.specs.Private.Networks.{has_room, IsNodeServed};
 
 pub use crate::node::decoded::Decoded;
@@ -134,6 +134,7 @@ impl<C: PublicKey> Node<C> {
     pub fn step(&mut self, command: Command<C>) -> Reply<C>
         ensures stepped { IsStepped C.cmp command result self.old self.new }
         ensures unchanged { was_made result ≡ false → IsSame self.old self.new }
+        ensures held { HoldsAfter C.cmp command result self.old self.new }
         ensures room { KeepsRoom C.cmp (named_peer command) self.old self.new }
         ensures limits { self.new.limits ≡ self.old.limits }
         ensures verifier { self.new.verifier ≡ self.old.verifier }

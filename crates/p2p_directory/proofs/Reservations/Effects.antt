@@ -24,10 +24,10 @@ use Rattle.p2p_tracker.specs.Answers.{is_present_in, was_taken, was_blocked, gra
 use Rattle.p2p_tracker.specs.PeerSets.{set_of, latest_index, is_above}
 use Rattle.p2p_tracker.specs.Seen.{RecordView, DirectoryView, record_of}
 use Rattle.p2p_tracker.specs.Directory.{is_busy, first_record, kept_after_release, may_block, may_listen_in, may_dial_in, ingress_in, ChangesRecord, Reserves, Connects, Updates, TakesSet, AreTornDown, BlocksUntil, EndsBlocks, ForgetsCooled}
-use Rattle.p2p_directory.specs.Held.{AreHeld}
+use Rattle.p2p_directory.specs.Held.{AreHeld, AddsHeld, DropsHeld}
 use Rattle.p2p_directory.specs.Refinement.{Refines, config_of, record_in, metadata_of}
 use Rattle.p2p_directory.specs.Run.{world_after, event_of, Holds}
-use Rattle.p2p_directory.specs.Laws.Effects.{HoldsNone, AddsHeld, DropsHeld, DirectoryStandsAt, granted_after}
+use Rattle.p2p_directory.specs.Laws.Effects.{HoldsNone, DirectoryStandsAt, granted_after}
 use Rattle.p2p_directory.proofs.Definitions.Targets.{dialled_is_target, dialled_may_listen}
 use Rattle.p2p_directory.proofs.Definitions.Law
 use Rattle.p2p_directory.proofs.LawsOfRuns.Forgotten

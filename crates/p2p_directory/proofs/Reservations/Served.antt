@@ -24,7 +24,8 @@ use Rattle.p2p_tracker.specs.Directory.{first_record, kept_after_release, may_bl
 use Rattle.p2p_tracker.specs.Directory.{IsNumberCooledIn, ForgetsCooled, may_listen_in, may_dial_in, ingress_in}
 use Rattle.p2p_tracker.specs.Directory.{ChangesRecord, Reserves, Connects, Updates, TakesSet, AreTornDown, has_status}
 use Rattle.p2p_tracker.specs.Seen.{record_of, unblock_of, RecordView}
-use Rattle.p2p_directory.specs.Laws.Effects.{AddsHeld, DropsHeld, DirectoryStandsAt}
+use Rattle.p2p_directory.specs.Held.{AddsHeld, DropsHeld}
+use Rattle.p2p_directory.specs.Laws.Effects.{DirectoryStandsAt}
 use Rattle.p2p_directory.specs.declared.run.commands.Reply.{Reply}
 use Rattle.p2p_directory.specs.Private.Serving.{ServerView, StandsAt, IsCallServedAt, IsCallSteppedAt}
 use Rattle.p2p_directory.specs.Private.Slots.{held_in}

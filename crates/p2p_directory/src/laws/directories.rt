@@ -21,9 +21,8 @@ ghost use Rattle.p2p_tracker.specs.Directory.{TakesSet, AreTornDown, IsReserved,
 ghost use Rattle.p2p_tracker.specs.Directory.{may_listen_in, ingress_in, may_block, EndsBlocks};
 ghost use Rattle.p2p_tracker.specs.Directory.{ForgetsCooled};
 ghost use Rattle.p2p_tracker.specs.Seen.{DirectoryView, record_of, key_of};
-ghost use Rattle.p2p_directory.specs.Held.{AreHeld};
-ghost use Rattle.p2p_directory.specs.Laws.Effects.{HoldsNone, AddsHeld, DropsHeld};
-ghost use Rattle.p2p_directory.specs.Laws.Effects.{DirectoryStandsAt, granted_after};
+ghost use Rattle.p2p_directory.specs.Held.{AreHeld, AddsHeld, DropsHeld};
+ghost use Rattle.p2p_directory.specs.Laws.Effects.{HoldsNone, DirectoryStandsAt, granted_after};
 ghost use Rattle.p2p_directory.specs.Laws.Isolation.{SameFor, AnswersAlike, left_for};
 ghost use Rattle.p2p_directory.specs.Laws.Isolation.{is_on_another, narrowed};
 ghost use Rattle.p2p_directory.specs.Laws.Order.{HaveSame, IsUnambiguous};

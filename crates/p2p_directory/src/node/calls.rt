@@ -2,7 +2,7 @@
 
 ghost use Rattle.std.specs.Prelude.{◌≡◌, false, Some};
 ghost use Rattle.p2p_directory.specs.Run.{was_made};
-ghost use Rattle.p2p_directory.specs.Nodes.{IsSame, IsStepped, KeepsRoom, TearsDownFew};
+ghost use Rattle.p2p_directory.specs.Nodes.{HoldsAfter, IsSame, IsStepped, KeepsRoom, TearsDownFew};
 ghost use Rattle.p2p_directory.specs.Private.Serving.{reserving};
 ghost use Rattle.p2p_directory.specs.declared.run.commands.Command.{Command};
 ghost use Rattle.p2p_directory.specs.declared.run.commands.Reply.{Reply};
@@ -24,6 +24,7 @@ impl<C: PublicKey> Node<C> {
     pub fn track(&mut self, index: u64, peers: TrackedPeers<C>) -> Reply<C>
         ensures stepped { IsStepped C.cmp (Command.Track index peers) result self.old self.new }
         ensures unchanged { was_made result ≡ false → self.new ≡ self.old }
+        ensures held { HoldsAfter C.cmp (Command.Track index peers) result self.old self.new }
         ensures room { self.new.slots ≡ self.old.slots }
         ensures limits { self.new.limits ≡ self.old.limits }
         ensures verifier { self.new.verifier ≡ self.old.verifier }
@@ -45,6 +46,7 @@ impl<C: PublicKey> Node<C> {
         ensures stepped { IsStepped C.cmp (Command.Dial peer.now now draw) result
             self.old self.new }
         ensures unchanged { was_made result ≡ false → IsSame self.old self.new }
+        ensures held { HoldsAfter C.cmp (Command.Dial peer.now now draw) result self.old self.new }
         ensures room { KeepsRoom C.cmp (Some peer.now) self.old self.new }
         ensures limits { self.new.limits ≡ self.old.limits }
         ensures verifier { self.new.verifier ≡ self.old.verifier }
@@ -65,6 +67,8 @@ impl<C: PublicKey> Node<C> {
         ensures stepped { IsStepped C.cmp (Command.Listen peer.now now draw) result
             self.old self.new }
         ensures unchanged { was_made result ≡ false → IsSame self.old self.new }
+        ensures held { HoldsAfter C.cmp (Command.Listen peer.now now draw) result
+            self.old self.new }
         ensures room { KeepsRoom C.cmp (Some peer.now) self.old self.new }
         ensures limits { self.new.limits ≡ self.old.limits }
         ensures verifier { self.new.verifier ≡ self.old.verifier }
@@ -78,6 +82,8 @@ impl<C: PublicKey> Node<C> {
         ensures stepped { IsStepped C.cmp (reserving dialer peer.now now draw) result
             self.old self.new }
         ensures unchanged { was_made result ≡ false → IsSame self.old self.new }
+        ensures held { HoldsAfter C.cmp (reserving dialer peer.now now draw) result
+            self.old self.new }
         ensures room { KeepsRoom C.cmp (Some peer.now) self.old self.new }
         ensures limits { self.new.limits ≡ self.old.limits }
         ensures verifier { self.new.verifier ≡ self.old.verifier }
@@ -95,6 +101,7 @@ impl<C: PublicKey> Node<C> {
         ensures stepped { IsStepped C.cmp (Command.Connect peer.now dialer) result
             self.old self.new }
         ensures unchanged { was_made result ≡ false → self.new ≡ self.old }
+        ensures held { HoldsAfter C.cmp (Command.Connect peer.now dialer) result self.old self.new }
         ensures room { self.new.slots ≡ self.old.slots }
         ensures limits { self.new.limits ≡ self.old.limits }
         ensures verifier { self.new.verifier ≡ self.old.verifier }
@@ -111,6 +118,7 @@ impl<C: PublicKey> Node<C> {
     pub fn release(&mut self, peer: &C) -> Reply<C>
         ensures stepped { IsStepped C.cmp (Command.Release peer.now) result self.old self.new }
         ensures unchanged { was_made result ≡ false → IsSame self.old self.new }
+        ensures held { HoldsAfter C.cmp (Command.Release peer.now) result self.old self.new }
         ensures room { KeepsRoom C.cmp (Some peer.now) self.old self.new }
         ensures limits { self.new.limits ≡ self.old.limits }
         ensures verifier { self.new.verifier ≡ self.old.verifier }
@@ -128,6 +136,7 @@ impl<C: PublicKey> Node<C> {
     pub fn block(&mut self, peer: &C, now: Duration) -> Reply<C>
         ensures stepped { IsStepped C.cmp (Command.Block peer.now now) result self.old self.new }
         ensures unchanged { was_made result ≡ false → self.new ≡ self.old }
+        ensures held { HoldsAfter C.cmp (Command.Block peer.now now) result self.old self.new }
         ensures room { self.new.slots ≡ self.old.slots }
         ensures limits { self.new.limits ≡ self.old.limits }
         ensures verifier { self.new.verifier ≡ self.old.verifier }
@@ -145,6 +154,8 @@ impl<C: PublicKey> Node<C> {
     pub fn unblock_expired(&mut self, now: Duration) -> bool
         ensures stepped { IsStepped C.cmp (Command.UnblockExpired now) (Reply.UnblockExpired result)
             self.old self.new }
+        ensures held { HoldsAfter C.cmp (Command.UnblockExpired now) (Reply.UnblockExpired result)
+            self.old self.new }
         ensures room { self.new.slots ≡ self.old.slots }
         ensures limits { self.new.limits ≡ self.old.limits }
         ensures verifier { self.new.verifier ≡ self.old.verifier }
@@ -161,6 +172,8 @@ impl<C: PublicKey> Node<C> {
     /// That of [`Directory::forget_cooled`].
     pub fn forget_cooled(&mut self, now: Duration) -> usize
         ensures stepped { IsStepped C.cmp (Command.ForgetCooled now) (Reply.ForgetCooled result)
+            self.old self.new }
+        ensures held { HoldsAfter C.cmp (Command.ForgetCooled now) (Reply.ForgetCooled result)
             self.old self.new }
         ensures room { self.new.slots ≡ self.old.slots }
         ensures limits { self.new.limits ≡ self.old.limits }

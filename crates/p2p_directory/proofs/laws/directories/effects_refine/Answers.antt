@@ -13,7 +13,8 @@ use Rattle.p2p_tracker.specs.Directory.{first_record, may_block, may_listen_in, 
 use Rattle.p2p_tracker.specs.Directory.{IsReserved, Reserves, Connects, Releases, Updates, TakesSet}
 use Rattle.p2p_tracker.specs.Directory.{AreTornDown, BlocksUntil, EndsBlocks, ForgetsCooled}
 use Rattle.p2p_directory.specs.Run.{world_after, event_of}
-use Rattle.p2p_directory.specs.Laws.Effects.{AddsHeld, DropsHeld, DirectoryStandsAt, granted_after}
+use Rattle.p2p_directory.specs.Held.{AddsHeld, DropsHeld}
+use Rattle.p2p_directory.specs.Laws.Effects.{DirectoryStandsAt, granted_after}
 use Rattle.p2p_directory.proofs.Refinement.KnowledgeRefines.{tie_reserved}
 use Rattle.p2p_directory.proofs.Reservations.Effects
 use Rattle.p2p_directory.proofs.laws.directories.effects_refine.Goals as goal

@@ -1,5 +1,5 @@
 use Rattle.std.proofs.Common.{sym, subst, ap}
-use Rattle.p2p_directory.specs.Private.Slots.{AreSlots}
+use Rattle.p2p_directory.specs.Private.Slots.{AreSlots, contents}
 use Rattle.std.specs.Map.{keys_of}
 use Rattle.p2p_directory.specs.declared.run.commands.Command.TheVariants as command
 use Rattle.p2p_directory.proofs.Nodes.Standing.{step_of, still}
@@ -21,3 +21,6 @@ returns-clause-stepped g c = rw (← c.self.view_is)
 
 pub returns-clause-room : goal.returns-clause-room
 returns-clause-room g c = rw (← c.self.view_is) (ap keys_of c.connect.ensures.slots)
+
+pub returns-clause-held : goal.returns-clause-held
+returns-clause-held g c = rw (← c.self.view_is) (ap contents c.connect.ensures.slots)

@@ -1,6 +1,7 @@
 use Rattle.std.proofs.Common.{Some}
 use Rattle.p2p_directory.specs.declared.run.commands.Command.TheVariants as command
 use Rattle.p2p_directory.proofs.Nodes.Standing.{same_node, step_of, still, keeps_room}
+use Rattle.p2p_directory.proofs.Nodes.HeldAfter.{holds_after}
 use Rattle.p2p_directory.proofs.node.Node.release.Goals as goal
 
 pub invariant_of-self : goal.invariant_of-self
@@ -26,3 +27,10 @@ pub returns-clause-room : goal.returns-clause-room
 returns-clause-room g c = rw (← c.self.view_is)
     (keeps_room g.met.C.Ord.total g.met.C.PublicKey.exact c.self.inside.payload c.self.inside.verifier (Some c.args.peer.now)
     c.self.inside.server c.release_slot.new.self c.release_slot.ensures.ordered c.release_slot.ensures.room)
+
+pub returns-clause-held : goal.returns-clause-held
+returns-clause-held g c = rw (← c.self.view_is)
+    (holds_after g.met.C.Ord.total g.met.C.PublicKey.exact c.self.inside.payload c.self.inside.verifier (command.Release c.args.peer.now) c.release_slot.result
+    c.self.inside.server c.release_slot.new.self c.self.invariant.1 c.release_slot.ensures.ordered c.self.invariant.2
+    (step_of g.met.C.Ord.total g.met.C.PublicKey.exact c.self.inside.payload c.self.inside.verifier (command.Release c.args.peer.now) c.release_slot.result
+    c.self.inside.server c.release_slot.new.self c.self.invariant.1 c.release_slot.ensures.ordered c.release_slot.ensures.served))

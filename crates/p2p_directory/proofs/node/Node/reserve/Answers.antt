@@ -1,6 +1,7 @@
 use Rattle.std.proofs.Common.{Some}
 use Rattle.p2p_directory.specs.Private.Serving.{reserving}
 use Rattle.p2p_directory.proofs.Nodes.Standing.{same_node, step_alone, still, keeps_room}
+use Rattle.p2p_directory.proofs.Nodes.HeldAfter.{holds_after}
 use Rattle.p2p_directory.proofs.node.Node.reserve.Goals as goal
 
 pub invariant_of-self : goal.invariant_of-self
@@ -26,3 +27,10 @@ pub returns-clause-room : goal.returns-clause-room
 returns-clause-room g c = rw (← c.self.view_is)
     (keeps_room g.met.C.Ord.total g.met.C.PublicKey.exact c.self.inside.payload c.self.inside.verifier (Some c.args.peer.now)
     c.self.inside.server c.reserve_slot.new.self c.reserve_slot.ensures.ordered c.reserve_slot.ensures.room)
+
+pub returns-clause-held : goal.returns-clause-held
+returns-clause-held g c = rw (← c.self.view_is)
+    (holds_after g.met.C.Ord.total g.met.C.PublicKey.exact c.self.inside.payload c.self.inside.verifier (reserving c.args.dialer c.args.peer.now c.args.now c.args.draw) c.reserve_slot.result
+    c.self.inside.server c.reserve_slot.new.self c.self.invariant.1 c.reserve_slot.ensures.ordered c.self.invariant.2
+    (step_alone g.met.C.Ord.total g.met.C.PublicKey.exact c.self.inside.payload c.self.inside.verifier (reserving c.args.dialer c.args.peer.now c.args.now c.args.draw) c.reserve_slot.result
+    c.self.inside.server c.reserve_slot.new.self c.self.invariant.1 c.reserve_slot.ensures.ordered c.reserve_slot.ensures.stepped))

@@ -1,5 +1,5 @@
 use Rattle.std.proofs.Common.{sym, subst, ap}
-use Rattle.p2p_directory.specs.Private.Slots.{AreSlots}
+use Rattle.p2p_directory.specs.Private.Slots.{AreSlots, contents}
 use Rattle.std.specs.Map.{keys_of}
 use Rattle.p2p_directory.specs.declared.run.commands.Command.TheVariants as command
 use Rattle.p2p_directory.specs.declared.run.commands.Reply.TheVariants as reply
@@ -22,3 +22,6 @@ returns-clause-stepped g c = rw (← c.self.view_is)
 
 pub returns-clause-room : goal.returns-clause-room
 returns-clause-room g c = rw (← c.self.view_is) (ap keys_of c.unblock_expired.ensures.slots)
+
+pub returns-clause-held : goal.returns-clause-held
+returns-clause-held g c = rw (← c.self.view_is) (ap contents c.unblock_expired.ensures.slots)
