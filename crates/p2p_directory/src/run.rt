@@ -25,6 +25,7 @@ use std::alloc::{AllocError, Global};
 mod commands;
 mod held;
 mod outcome;
+mod replies;
 pub(crate) mod server;
 pub(crate) mod slots;
 

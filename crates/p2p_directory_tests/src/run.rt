@@ -8,6 +8,7 @@ use std::alloc::Global;
 use std::test::Fail;
 
 mod held;
+mod replies;
 mod slots;
 
 const ROUNDS: u64 = 2_500;
