@@ -15,6 +15,7 @@ pub mod Lingering
 pub mod Repair
 pub mod Laws
 pub mod Forgotten
+pub mod OneCall
 mod GrantExamples
 mod RunExamples
 mod ConnectionExamples

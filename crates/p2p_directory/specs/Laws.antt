@@ -12,6 +12,8 @@ pub mod GrantCounts
 pub mod Lingering
 pub mod Repair
 pub mod Run
+-- What one more call leaves.
+pub mod Steps
 -- What is kept answers as a world does.
 pub mod Refined
 -- .. and what each call does to it leads to the next world.

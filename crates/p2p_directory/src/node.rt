@@ -40,6 +40,14 @@ pub mod wire;
 /// A directory with its open reservations, the verifier of infos, and the limits under which frames
 /// are read. A contract sees these four, and for which peers there is a slot: room for a
 /// reservation, with one in it or not. It must be consumed by [`Node::finish`] or [`Node::parts`].
+///
+/// # Times
+///
+/// Each call takes its own time. By those of `Command::Infos` and [`Node::receive`] infos are
+/// shared and judged. By those of all other calls reservations and blocks are made, and end.
+/// Neither has to do with the other, as [`infos_leave_moments`](crate::laws::infos_leave_moments)
+/// says. So they may come from two clocks: the first from a wall clock, the second from one that
+/// never goes back.
 pub struct Node<C: PublicKey> {
     server: Server<C>,
     verifier: InfoVerifier<C>,
