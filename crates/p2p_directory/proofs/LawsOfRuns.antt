@@ -16,6 +16,7 @@ pub mod Repair
 pub mod Laws
 pub mod Forgotten
 pub mod OneCall
+pub mod FullQuestions
 mod GrantExamples
 mod RunExamples
 mod ConnectionExamples

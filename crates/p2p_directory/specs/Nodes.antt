@@ -27,15 +27,17 @@ use Rattle.p2p_tracker.specs.Calls.Call.{Dial, Listen, Release, Update}
 use Rattle.p2p_tracker.specs.World.{World}
 use Rattle.p2p_tracker.specs.Answers.{infos_for, set_at_place}
 use Rattle.p2p_tracker.specs.Directory.{Updates, bit_vec_at, infos_in, other_keys, ingress_in}
+use Rattle.p2p_tracker.specs.Directory.{full_bit_vec_at}
 use Rattle.p2p_tracker.specs.Seen.{DirectoryView}
 use Rattle.p2p_directory.specs.Held.{held_of, AddsHeld, DropsHeld}
 use Rattle.p2p_directory.specs.Refinement.{Refines}
 use Rattle.p2p_directory.specs.Run.{settings, call_of, world_after, next, bit_vec_in}
+use Rattle.p2p_directory.specs.Run.{full_bit_vec_in}
 use Rattle.p2p_directory.specs.Run.{IsAnswer, Holds}
 use Rattle.p2p_directory.specs.Received as frames
 use Rattle.p2p_directory.specs.Received.{Wire, Standing, FrameOutcome, received_at, received_by}
 use Rattle.p2p_directory.specs.Received.{frame_may_want_memory_by}
-use Rattle.p2p_directory.specs.Received.{ask_frame_at, applied_with, told_with}
+use Rattle.p2p_directory.specs.Received.{ask_frame_at, frame_of_bits, applied_with, told_with}
 
 -- WHAT IS SEEN
 
@@ -164,6 +166,14 @@ module _ {C S : Type 0} (m : Made C S) where
     pub err : OnErr r
         (is_some (set_at_place m.directory (world_after m.directory calls) place) ≡ true)
 
+  -- .. with bits as if no info but the own one were known
+  pub record IsAskedForAllAt (wire : Wire C S) (calls : List (Call C S)) (place : ℕ)
+      {E : Type 0} (r : Result (Option (List ℕ)) E) : Type 0 where
+    pub frame : IfOk r (λ frame. frame ≡ frame_of_bits wire
+        (full_bit_vec_in m.directory (world_after m.directory calls) place))
+    pub err : OnErr r
+        (is_some (set_at_place m.directory (world_after m.directory calls) place) ≡ true)
+
 -- EACH CALL, whatever the node was made from, and wherever the calls accepted before led: v before
 -- it, v2 after it
 
@@ -184,6 +194,10 @@ module _ {C S : Type 0} (cmp : C → C → Ordering) where
   abbrev pub IsAsked : Wire C S → ℕ → {E : Type 0} → Result (Option (List ℕ)) E → NodeView C S →
       Type 0
   IsAsked wire place r v = AtEach v (λ m calls. IsAskedAt m wire calls place r)
+
+  abbrev pub IsAskedForAll : Wire C S → ℕ → {E : Type 0} → Result (Option (List ℕ)) E →
+      NodeView C S → Type 0
+  IsAskedForAll wire place r v = AtEach v (λ m calls. IsAskedForAllAt m wire calls place r)
 
 -- a node is as it was, but for slots
 abbrev pub IsSame : {C S : Type 0} → NodeView C S → NodeView C S → Type 0
@@ -278,4 +292,11 @@ module _ {C S : Type 0} (cmp : C → C → Ordering) where
   pub record AsksWith (wire : Wire C S) (place : ℕ) {E : Type 0}
       (r : Result (Option (List ℕ)) E) (v : NodeView C S) : Type 0 where
     pub frame : IfOk r (λ frame. frame ≡ ask_frame_at wire (standing_of cmp wire v) place)
+    pub err : OnErr r (is_some (slice_get v.directory.sets place) ≡ true)
+
+  -- .. with bits as if no info but the own one were known
+  pub record AsksForAll (wire : Wire C S) (place : ℕ) {E : Type 0}
+      (r : Result (Option (List ℕ)) E) (v : NodeView C S) : Type 0 where
+    pub frame : IfOk r (λ frame.
+        frame ≡ frame_of_bits wire (full_bit_vec_at cmp v.directory place))
     pub err : OnErr r (is_some (slice_get v.directory.sets place) ≡ true)

@@ -185,9 +185,13 @@ module _ {C S : Type 0} (wire : Wire C S) where
   are_miscounted node frame verdicts =
       miscounts verdicts (whole (wire.reading node.limits) frame).outcome
 
+  -- the frame of an index and its bits, if there are any
+  abbrev pub frame_of_bits : Option BitVec → Option (List ℕ)
+  frame_of_bits bits = option_map (λ v. wire.spelling (said.BitVec v)) bits
+
   -- `ask`: the frame of the bits of the set at a place
   abbrev pub ask_frame_at : Standing C S → ℕ → Option (List ℕ)
-  ask_frame_at node place = option_map (λ v. wire.spelling (said.BitVec v)) (node.bits place)
+  ask_frame_at node place = frame_of_bits (node.bits place)
 
   -- WANT OF MEMORY: where reading the frame asks for some, and for an answer that takes room
   abbrev pub frame_may_want_memory_by : (Payload C S → List Bool) → Standing C S → List ℕ → ℕ → Bool

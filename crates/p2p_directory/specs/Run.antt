@@ -25,7 +25,7 @@ use Rattle.p2p_tracker.specs.Calls.Call.{Track, Dial, Listen, Connect, Release, 
 use Rattle.p2p_tracker.specs.Calls.Call.{UnblockExpired, ForgetCooled, Ask}
 use Rattle.p2p_tracker.specs.PeerSets.{has_peers}
 use Rattle.p2p_tracker.specs.Lists.{Somebody}
-use Rattle.p2p_tracker.specs.History.{is_named, taken_sets}
+use Rattle.p2p_tracker.specs.History.{is_named, is_own, taken_sets}
 use Rattle.p2p_tracker.specs.Status.{is_inert}
 use Rattle.p2p_tracker.specs.World.{World, world_at, past, event_in}
 use Rattle.p2p_tracker.specs.Answers.{IsTrackAnswer, was_granted, was_taken, was_blocked}
@@ -106,6 +106,11 @@ module _ {C S : Type 0} (s : Settings C S) where
   -- the bits of the set at a place in the world w, with its index, if there is one
   abbrev pub bit_vec_in : World C S → ℕ → Option BitVec
   bit_vec_in w place = option_map bit_vec_of (bits_at s w place)
+
+  -- .. as if no info but the own one were known
+  abbrev pub full_bit_vec_in : World C S → ℕ → Option BitVec
+  full_bit_vec_in w place =
+      option_map (λ x. bit_vec_of (x.index, map (is_own s) x.primary)) (set_at_place s w place)
 
   -- ONE REPLY. `before` are the calls accepted before, the newest first; w is the world that they
   -- make, e what the call does in it, v the world after that

@@ -11,7 +11,9 @@ pub use crate::laws::gossip::{
     nodes_are_a_network,
 };
 pub use crate::laws::runs::laws_of_a_run;
-pub use crate::laws::steps::{busy_is_one_step, granted_are_connected, infos_leave_moments};
+pub use crate::laws::steps::{
+    busy_is_one_step, full_questions_bring_all, granted_are_connected, infos_leave_moments,
+};
 pub use crate::laws::verdicts::{judged_by, verdicts_suffice};
 
 mod directories;

@@ -10,6 +10,7 @@ use std::alloc::Global;
 use std::test::Fail;
 use std::time::Duration;
 
+mod asks;
 mod decoded;
 mod network;
 

@@ -214,6 +214,16 @@ module _ {C S : Type 0} (cmp : C → C → Ordering) where
       option_map (λ set. record { index = set.index; bits = known_bits d set })
       (slice_get d.sets place)
 
+  -- q is the local node: its record has the own info
+  abbrev pub is_own_in : DirectoryView C S → C → Bool
+  is_own_in d q = option_map_or (λ r. is_myself r.address) (record_of cmp d q) false
+
+  -- .. as if no info but that of the local node were known
+  abbrev pub full_bit_vec_at : DirectoryView C S → ℕ → Option BitVec
+  full_bit_vec_at d place =
+      option_map (λ set. record { index = set.index; bits = map (is_own_in d) set.primary })
+      (slice_get d.sets place)
+
   -- A SET
 
   -- what is kept of a peer with these moments once these are the retained sets: its counts are
@@ -254,9 +264,7 @@ module _ {C S : Type 0} (cmp : C → C → Ordering) where
 
   -- a block of p may be taken at a moment: p isn't the local node, and isn't blocked
   abbrev pub may_block : DirectoryView C S → ℕ → C → Bool
-  may_block d now p =
-      not (option_map_or (λ r. is_myself r.address) (record_of cmp d p) false)
-      && not (is_blocked_in d now p)
+  may_block d now p = not (is_own_in d p) && not (is_blocked_in d now p)
 
   -- p is blocked until a moment, and all else stays
   pub record BlocksUntil (old new : DirectoryView C S) (p : C) (moment : ℕ) : Type 0 where

@@ -33,6 +33,7 @@ pub(crate) mod blocked;
 mod connections;
 mod cooled;
 mod eligibility;
+mod full_bits;
 mod infos;
 mod peer_sets;
 pub(crate) mod records;

@@ -16,15 +16,16 @@ use Rattle.p2p_directory.specs.Held.{held_of}
 use Rattle.p2p_directory.specs.Refinement.{Refines}
 use Rattle.p2p_directory.specs.Run.{world_after, Holds}
 use Rattle.p2p_directory.specs.Received as frames
-use Rattle.p2p_directory.specs.Received.{Wire, Standing, FrameOutcome, received_at, received_by, frame_may_want_memory_by, ask_frame_at, applied_with, told_with}
+use Rattle.p2p_directory.specs.Received.{Wire, Standing, FrameOutcome, received_at, received_by, frame_may_want_memory_by, ask_frame_at, frame_of_bits, applied_with, told_with}
 use Rattle.p2p_directory.specs.declared.node.exchanged.Exchanged.{Exchanged}
 use Rattle.p2p_directory.specs.Exchange as exchange
 use Rattle.p2p_directory.specs.Exchange.{exchanged_at, infos_applied, IsExchangedAt, HasSpelling, ExchangeOutcome, IsCarried}
-use Rattle.p2p_directory.specs.Nodes.{Made, NodeView, NodeStandsAt, IsAnsweredAt, IsReceivedAt, IsAskedAt, standing_of, standing_in, calls_with, IsLeft, Answers, AnswersFrame, Verdicts, AsksWith, AreValues, StandsSomewhere, made_of}
+use Rattle.p2p_directory.specs.Nodes.{Made, NodeView, NodeStandsAt, IsAnsweredAt, IsReceivedAt, IsAskedAt, IsAskedForAllAt, standing_of, standing_in, calls_with, IsLeft, Answers, AnswersFrame, Verdicts, AsksWith, AsksForAll, AreValues, StandsSomewhere, made_of}
 use Rattle.p2p_directory.specs.Private.Serving.{ServerView, node_at}
 use Rattle.p2p_directory.specs.Private.Slots.{AreSlots}
 use Rattle.p2p_directory.proofs.Definitions.Law
 use Rattle.p2p_directory.proofs.LawsOfRuns.Forgotten
+use Rattle.p2p_directory.proofs.Refinement.BlocksRefine
 use Rattle.p2p_directory.proofs.Refinement.KnowledgeRefines
 
 module _ {C S : Type 0} (m : Made C S) (calls : List (Call C S)) (v : NodeView C S) (at : NodeStandsAt m calls v) where
@@ -86,6 +87,14 @@ module _ {C S : Type 0} (m : Made C S) (wire : Wire C S) (calls : List (Call C S
   pub asked_in : {E : Type 0} (place : ℕ) (r : Result (Option (List ℕ)) E) → AsksWith m.directory.cmp wire place r v → IsAskedAt m wire calls place r
   asked_in place r asks = record {
     frame = subst (λ node. IfOk r (λ frame. frame ≡ ask_frame_at wire node place)) stands_alike asks.frame;
+    err = subst (λ sets. OnErr r (is_some (slice_get sets place) ≡ true)) at.refines.sets asks.err;
+  }
+
+  pub asked_for_all_in : {E : Type 0} (place : ℕ) (r : Result (Option (List ℕ)) E) →
+      AsksForAll m.directory.cmp wire place r v → IsAskedForAllAt m wire calls place r
+  asked_for_all_in place r asks = record {
+    frame = subst (λ bits. IfOk r (λ frame. frame ≡ frame_of_bits wire bits))
+        (BlocksRefine.tie_full_bits m.directory (world_after m.directory calls) v.directory place at.refines) asks.frame;
     err = subst (λ sets. OnErr r (is_some (slice_get sets place) ≡ true)) at.refines.sets asks.err;
   }
 

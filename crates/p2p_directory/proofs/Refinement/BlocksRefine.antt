@@ -1,5 +1,5 @@
 -- Who is blocked, who may come, and what is told of the sets: a directory answers what the world that it refines says.
-use Rattle.std.proofs.Common.{◌≡◌, ℕ, ◌+◌, Bool, true, false, ◌||◌, ◌&&◌, not, List, Option, Some, None, sym, ap, subst, refl, ◌∙◌}
+use Rattle.std.proofs.Common.{◌≡◌, ℕ, ◌+◌, Bool, true, false, ◌||◌, ◌&&◌, not, List, map, slice_get, Option, Some, None, sym, ap, subst, refl, ◌∙◌}
 use Rattle.std.specs.Prelude.{if◌then◌else◌, nat_lt, nat_le}
 use Rattle.std.specs.Option.{option_map, option_map_or}
 use Rattle.std.specs.List.{last_or, list_any}
@@ -8,7 +8,7 @@ use Rattle.p2p_discovery.proofs.Truth.{nat_le-not_lt}
 use Rattle.p2p_tracker.specs.Blocks.{is_blocked, IsAnyUntil}
 use Rattle.p2p_tracker.specs.declared.directory.PeerSetUpdate.{PeerSetUpdate}
 use Rattle.p2p_tracker.specs.declared.directory.TrackedPeers.{TrackedPeers}
-use Rattle.p2p_tracker.specs.Calls.{Settings}
+use Rattle.p2p_tracker.specs.Calls.{Settings, SetAt}
 use Rattle.p2p_tracker.specs.Calls.Event.{Blocked, Expired}
 use Rattle.p2p_tracker.specs.Moments.{cap}
 use Rattle.p2p_tracker.specs.History.{same, is_own, is_persistent, is_named, is_entitled}
@@ -17,10 +17,10 @@ use Rattle.p2p_tracker.specs.World.{World, unblock_after, world_with}
 use Rattle.p2p_tracker.specs.Answers.{is_present_in, AreAll, IsLatestUpdate, is_blocked_at, AreBlocked, IsNextUnblock, IsAnyExpired, is_eligible_at, is_acceptable_at}
 use Rattle.p2p_tracker.specs.Lists.{Lists, IsLeastOf}
 use Rattle.p2p_tracker.specs.Record.{is_myself, is_eligible, is_acceptable}
-use Rattle.p2p_tracker.specs.Directory.{is_blocked_in, may_block, if_later, is_free_and, AreAllOf, IsUpdateOf, BlocksUntil, EndsBlocks}
+use Rattle.p2p_tracker.specs.Directory.{is_blocked_in, is_own_in, full_bit_vec_at, may_block, if_later, is_free_and, AreAllOf, IsUpdateOf, BlocksUntil, EndsBlocks}
 use Rattle.p2p_tracker.specs.Seen.{DirectoryView, record_of, unblock_of}
 use Rattle.p2p_directory.specs.Refinement.{Refines}
-use Rattle.p2p_directory.specs.Run.{update_in}
+use Rattle.p2p_directory.specs.Run.{update_in, bit_vec_of, full_bit_vec_in}
 use Rattle.p2p_tracker.proofs.Definitions.Listed
 use Rattle.p2p_tracker.proofs.Definitions.Listed.{lists_alike, somebody_alike}
 use Rattle.p2p_directory.proofs.Refinement.CallsRefine.{same_cooldowns, unchanged}
@@ -60,12 +60,11 @@ module _ {C S : Type 0} (s : Settings C S) where
     (λ found. told.1 (found.0, found.1, stands.blocks found.0 ∙ found.2, found.3)),
   )
 
-  -- whether a block of p may be taken
-  pub tie_may_block : (w : World C S) (d : DirectoryView C S) (p : C) (t : ℕ) → Refines s w d →
-      may_block s.cmp d t p ≡ (not (is_own s p) && not (is_blocked (w.unblock p) t))
-  tie_may_block w d p t stands =
-      (λ i. not (option_map_or (λ r. is_myself r.address) (stands.records p i) false) && not (is_blocked (stands.blocks p i) t))
-      ∙ ap (λ b. not b && not (is_blocked (w.unblock p) t)) (go (is_own s p) (is_present_in s w p) refl (myself_is_own s p (w.peer p).known))
+  -- whether p is the own key: its record has the own info, and is there
+  pub tie_own : (w : World C S) (d : DirectoryView C S) (p : C) → Refines s w d → is_own_in s.cmp d p ≡ is_own s p
+  tie_own w d p stands =
+      ap (λ o. option_map_or (λ r. is_myself r.address) o false) (stands.records p)
+      ∙ go (is_own s p) (is_present_in s w p) refl (myself_is_own s p (w.peer p).known)
     where
       go : (own b : Bool) → is_present_in s w p ≡ b →
           is_myself (record_with s p w.sets (w.cooldown p) (w.peer p)).address ≡ own →
@@ -80,6 +79,19 @@ module _ {C S : Type 0} (s : Settings C S) where
               sym e ∙ ap (λ b.
               ((b || list_any (λ b. same s b.0 p) s.bootstrappers) || is_named s p w.sets)
               || not (is_inert (w.peer p).status)) own in cc
+
+  -- whether a block of p may be taken
+  pub tie_may_block : (w : World C S) (d : DirectoryView C S) (p : C) (t : ℕ) → Refines s w d →
+      may_block s.cmp d t p ≡ (not (is_own s p) && not (is_blocked (w.unblock p) t))
+  tie_may_block w d p t stands =
+      (λ i. not (is_own_in s.cmp d p) && not (is_blocked (stands.blocks p i) t))
+      ∙ ap (λ b. not b && not (is_blocked (w.unblock p) t)) (tie_own w d p stands)
+
+  -- the bits of a full question
+  pub tie_full_bits : (w : World C S) (d : DirectoryView C S) (place : ℕ) → Refines s w d →
+      full_bit_vec_at s.cmp d place ≡ full_bit_vec_in s w place
+  tie_full_bits w d place stands = λ i.
+      option_map (λ (x : SetAt C). bit_vec_of (x.index, map (λ q. tie_own w d q stands i) x.primary)) (slice_get (stands.sets i) place)
 
   pub tie_block : (w : World C S) (d d' : DirectoryView C S) (p : C) (t : ℕ) → Refines s w d →
       BlocksUntil s.cmp d d' p (cap (t + d.config.block_duration)) → Refines s (world_with s (Blocked p t) w) d'

@@ -1,8 +1,11 @@
--- One more accepted call: who is busy after it, and what it leaves of all that has a moment.
-use Rattle.std.specs.Prelude.{◌≡◌, Bool, not, ◌&&◌, ◌||◌}
+-- One more accepted call: who is busy after it, and what it leaves of all that has a moment; and
+-- what a full question brings.
+use Rattle.std.specs.Prelude.{◌≡◌, ℕ, Bool, false, not, ◌&&◌, ◌||◌, List, filter, filter_map}
+use Rattle.p2p_discovery.specs.declared.discovery.Info.{Info}
 use Rattle.p2p_tracker.specs.Calls.{Settings, Call}
 use Rattle.p2p_tracker.specs.Calls.Call.{Dial, Listen, Release}
-use Rattle.p2p_tracker.specs.History.{same}
+use Rattle.p2p_tracker.specs.Answers.{shared_info}
+use Rattle.p2p_tracker.specs.History.{same, is_own}
 use Rattle.p2p_tracker.specs.Status.{is_inert}
 use Rattle.p2p_tracker.specs.World.{World}
 
@@ -26,3 +29,10 @@ pub record LeavesMoments {C S : Type 0} (w v : World C S) : Type 0 where
   pub unblock : (p : C) → v.unblock p ≡ w.unblock p
   pub cooldown : (p : C) → v.cooldown p ≡ w.cooldown p
   pub held : (p : C) → v.held p ≡ w.held p
+
+-- all infos that may be shared in the world w of these peers, but of the own one of a: those whose
+-- timestamp isn't above these milliseconds, in their order
+abbrev pub all_infos_for : {C S : Type 0} → Settings C S → Settings C S → World C S → ℕ → List C →
+    List (Info C S)
+all_infos_for a s w millis ps =
+    filter_map (λ q. shared_info s w millis (q, false)) (filter (λ q. not (is_own a q)) ps)

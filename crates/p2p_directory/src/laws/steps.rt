@@ -1,15 +1,19 @@
-//! Laws of one more accepted call, for a caller's own proofs.
+//! Laws of one more accepted call and of full questions, for a caller's own proofs.
 
 ghost use Rattle.std.specs.Prelude.{◌≡◌, ◌≤◌, ℕ, Bool, true, List, ◌∷◌, Some, is_some};
+ghost use Rattle.p2p_discovery.specs.declared.discovery.BitVec.{BitVec};
 ghost use Rattle.p2p_discovery.specs.declared.discovery.Info.{Info};
-ghost use Rattle.p2p_tracker.specs.Calls.{Settings, Call, Question, reserved_by};
+ghost use Rattle.p2p_tracker.specs.Calls.{Settings, SetAt, Call, Question, reserved_by};
 ghost use Rattle.p2p_tracker.specs.Calls.Call.{Dial, Listen, Connect, Update, Ask};
-ghost use Rattle.p2p_tracker.specs.World.{status_after};
-ghost use Rattle.p2p_tracker.specs.Answers.{may_connect, was_granted};
+ghost use Rattle.p2p_tracker.specs.World.{World, status_after};
+ghost use Rattle.p2p_tracker.specs.Answers.{may_connect, was_granted, set_at_place};
+ghost use Rattle.p2p_tracker.specs.Answers.{set_with_index, infos_for};
+ghost use Rattle.p2p_tracker.specs.Moments.{epoch_millis};
 ghost use Rattle.p2p_directory.specs.declared.run.commands.Reply.{Reply};
-ghost use Rattle.p2p_directory.specs.Run.{world_after, event_of};
+ghost use Rattle.p2p_directory.specs.Run.{world_after, event_of, full_bit_vec_in};
 ghost use Rattle.p2p_directory.specs.Nodes.{Made, IsStepAnswer};
 ghost use Rattle.p2p_directory.specs.Laws.Steps.{is_busy_in, is_busy_after, LeavesMoments};
+ghost use Rattle.p2p_directory.specs.Laws.Steps.{all_infos_for};
 
 use p2p_discovery::codec::PublicKey;
 
@@ -63,4 +67,16 @@ pub fn infos_leave_moments<C: PublicKey>()
     ensures asks { (s : Settings C C.Signature) → s.cmp ≡ C.cmp → 1 ≤ s.max_sets →
         (cs : List (Call C C.Signature)) (question : Question C) →
         world_after s (Ask question ∷ cs) ≡ world_after s cs }
+{}
+
+/// By a law of directories, the frame of [`Node::ask_all`](crate::node::Node::ask_all) asks for
+/// all: a directory that retains a set of the index with the same primary peers answers its bits
+/// with every info of them that it may share at the time, except the asker's.
+pub fn full_questions_bring_all<C: PublicKey>()
+    ensures { (a s : Settings C C.Signature) (v w : World C C.Signature) (place : ℕ)
+        (asked kept : SetAt C) (bits : BitVec) (t : ℕ) →
+        set_at_place a v place ≡ Some asked → full_bit_vec_in a v place ≡ Some bits →
+        set_with_index s w bits.index ≡ Some kept → kept.primary ≡ asked.primary →
+        infos_for s w bits.index bits.bits t ≡
+        Some (all_infos_for a s w (epoch_millis t) kept.primary) }
 {}

@@ -14,7 +14,7 @@ ghost use Rattle.p2p_directory.specs.Received.{applies, told_with, are_miscounte
 ghost use Rattle.p2p_directory.specs.Received.{received_of, AreFew, first_verdict};
 ghost use Rattle.p2p_directory.specs.Received.{verdicts_of, IsWantOfMemory};
 ghost use Rattle.p2p_directory.specs.Nodes.{standing_of, given_verdicts, Answers, AnswersFrame};
-ghost use Rattle.p2p_directory.specs.Nodes.{AreValues, AsksWith, TellsValues};
+ghost use Rattle.p2p_directory.specs.Nodes.{AreValues, AsksForAll, AsksWith, TellsValues};
 ghost use Rattle.p2p_directory.specs.Exchange.{HasSpelling, HaveSpelling};
 ghost use Rattle.p2p_directory.specs.Private.Frames.{fault_answer};
 
@@ -38,6 +38,23 @@ impl<C: PublicKey> Node<C> {
     {
         let directory = self.server.directory();
         match directory.get_random_bit_vec(place)? {
+            Some(bits) => {
+                // For the proof: the number of bits fits.
+                let _count = bits.bits.len();
+                let frame = frame_of::<C>(directory.allocator(), Payload::BitVec(bits))?;
+                Ok(Some(frame))
+            }
+            None => Ok(None),
+        }
+    }
+
+    // What the node asks with for all infos of the set at a position, or `None` if there is no such
+    // position.
+    pub(super) fn ask_all_frame(&self, place: usize) -> Result<Option<Bytes>, AllocError>
+        ensures { AsksForAll C.cmp ⟦<C as Frames>⟧.wire place result self.now }
+    {
+        let directory = self.server.directory();
+        match directory.get_full_bit_vec(place)? {
             Some(bits) => {
                 // For the proof: the number of bits fits.
                 let _count = bits.bits.len();

@@ -6,7 +6,7 @@ ghost use Rattle.p2p_directory.specs.Received.{applies, received_of, AreFew};
 ghost use Rattle.p2p_directory.specs.Received.{are_miscounted, verdicts_of, IsWantOfMemory};
 ghost use Rattle.p2p_directory.specs.Nodes.{IsAsked, IsReceived, given_verdicts, standing_of};
 ghost use Rattle.p2p_directory.specs.Nodes.{AnswersFrame, AsksWith, TellsValues};
-ghost use Rattle.p2p_directory.specs.Nodes.{AtEach};
+ghost use Rattle.p2p_directory.specs.Nodes.{AsksForAll, AtEach, IsAskedForAll};
 ghost use Rattle.p2p_discovery.specs.Payload.{payload_at};
 ghost use Rattle.p2p_discovery.specs.Reading.{GivesAs, whole};
 ghost use Rattle.p2p_directory.specs.Laws.LateFrames.{TakesLateAt};
@@ -38,6 +38,25 @@ impl<C: PublicKey> Node<C> {
         ensures asked { IsAsked C.cmp ⟦<C as Frames>⟧.wire place result self.now }
     {
         self.ask_frame(place)
+    }
+
+    /// The frame by which the node asks for all infos of the retained set at a position, counted
+    /// from 0 in order of index. Its bits are 0 for each primary peer, so that a node that receives
+    /// it shares all infos of the set that it may, and 1 for the local node if it is one. `None` if
+    /// there is no such position.
+    ///
+    /// # Errors
+    ///
+    /// `AllocError` if an allocation fails. It allocates only if there is such a position.
+    ///
+    /// # Cost
+    ///
+    /// One comparison of keys for each primary peer of the set.
+    pub fn ask_all(&self, place: usize) -> Result<Option<Bytes>, AllocError>
+        ensures seen { AsksForAll C.cmp ⟦<C as Frames>⟧.wire place result self.now }
+        ensures asked { IsAskedForAll C.cmp ⟦<C as Frames>⟧.wire place result self.now }
+    {
+        self.ask_all_frame(place)
     }
 
     /// Processes a frame that the node received at the time `now`, a duration since the epoch.
