@@ -1,12 +1,11 @@
 -- What a full question brings: all that may be shared but of the asker.
-use Rattle.std.proofs.Common.{◌≡◌, ◌==◌, ℕ, Bool, true, false, not, List, [], ◌∷◌, length, map, zip, filter, filter_map, Option, Some, None, refl, sym, ◌∙◌, ap, subst}
+use Rattle.std.proofs.Common.{◌≡◌, ◌==◌, ℕ, Bool, true, false, not, List, [], ◌∷◌, length, map, filter, filter_map, Option, Some, None, refl, sym, ◌∙◌, ap}
 use Rattle.std.specs.Prelude.{if◌then◌else◌}
 use Rattle.std.specs.List.{cons_option}
 use Rattle.std.specs.Option.{option_map}
 use Rattle.std.proofs.lemmas.List.{length-map}
 use Rattle.p2p_discovery.proofs.Truth.{nat_eq-itself}
 use Rattle.p2p_discovery.specs.declared.discovery.BitVec.{BitVec}
-use Rattle.p2p_discovery.specs.declared.discovery.Info.{Info}
 use Rattle.p2p_tracker.specs.Answers.{shared_info, shared_infos, set_at_place, set_with_index, infos_for}
 use Rattle.p2p_tracker.specs.Calls.{Settings, SetAt}
 use Rattle.p2p_tracker.specs.History.{is_own}

@@ -13,7 +13,7 @@ use Rattle.p2p_tracker.specs.declared.record.Status.{Status}
 use Rattle.p2p_tracker.specs.declared.record.Status.TheVariants.{Inert, Reserved, Active}
 use Rattle.p2p_tracker.specs.Calls.{Settings, Call, Event, SetAt, Grant, Question, reserved_by}
 use Rattle.p2p_tracker.specs.Calls.Call.{Track, Dial, Listen, Connect, Release, Update, Block, UnblockExpired, ForgetCooled, Ask}
-use Rattle.p2p_tracker.specs.Calls.Event.{Nothing, SetTaken, Granted, Released, Updated, Blocked}
+use Rattle.p2p_tracker.specs.Calls.Event.{Nothing, SetTaken, Granted, Blocked}
 use Rattle.p2p_tracker.specs.Blocks.{is_blocked}
 use Rattle.p2p_tracker.specs.PeerSets.{set_of}
 use Rattle.p2p_tracker.specs.History.{same, is_own, last_with, is_release, is_connect, grant_by, status_at, held_at, status_since, unless_ended}

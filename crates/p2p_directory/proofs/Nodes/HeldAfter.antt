@@ -17,11 +17,10 @@ use Rattle.p2p_tracker.specs.declared.record.Status.{Status}
 use Rattle.p2p_tracker.specs.declared.record.Status.TheVariants.{Inert, Reserved, Active}
 use Rattle.p2p_tracker.specs.Answers.{was_granted, may_release}
 use Rattle.p2p_tracker.specs.Blocks.{is_blocked}
-use Rattle.p2p_tracker.specs.Calls.{Settings, Call, SetAt, Event, Grant, Direction}
+use Rattle.p2p_tracker.specs.Calls.{Settings, Call, SetAt, Event, Grant}
 use Rattle.p2p_tracker.specs.Calls.Call.{Track, Dial, Listen, Connect, Release, Update, Block, UnblockExpired, ForgetCooled, Ask}
 use Rattle.p2p_tracker.specs.Calls.Direction.{Listener, Dialer}
-use Rattle.p2p_tracker.specs.Calls.Event.{Nothing, SetTaken, Granted, Connected, Released, Blocked}
-use Rattle.p2p_tracker.specs.Directory.{ingress_in}
+use Rattle.p2p_tracker.specs.Calls.Event.{Nothing, SetTaken, Granted, Released, Blocked}
 use Rattle.p2p_tracker.specs.History.{is_own}
 use Rattle.p2p_tracker.specs.PeerSets.{set_of}
 use Rattle.p2p_tracker.specs.World
@@ -32,9 +31,9 @@ use Rattle.p2p_directory.specs.declared.run.commands.Reply.TheVariants as reply
 use Rattle.p2p_directory.specs.Held.{held_of, AddsHeld, DropsHeld}
 use Rattle.p2p_directory.specs.Nodes.{Made, NodeView, NodeStandsAt, IsStepAnswer, IsStepped, StandsSomewhere, made_of, LeavesHeld, HoldsAfter}
 use Rattle.p2p_directory.specs.Private.Serving.{ServerView, node_at}
-use Rattle.p2p_directory.specs.Private.Slots.{held_in, AreSlots}
+use Rattle.p2p_directory.specs.Private.Slots.{AreSlots}
 use Rattle.p2p_directory.specs.Refinement.{metadata_of}
-use Rattle.p2p_directory.specs.Run.{call_of, was_made, world_after, next, event_of}
+use Rattle.p2p_directory.specs.Run.{call_of, was_made, world_after, next}
 use Rattle.p2p_directory.proofs.Definitions.Law
 use Rattle.p2p_directory.proofs.Refinement.DialsRefine
 use Rattle.p2p_directory.proofs.Reservations.Slots.{held_is, same_contents}
