@@ -95,10 +95,11 @@ impl<C: PublicKey> Node<C> {
     {
         self.server.tracked()
     }
+
     /// Asks the node's directory whether a call of [`Node::listen`] with the peer at the time `now`
     /// would grant a reservation if memory suffices, as [`Node::step`] replies to
-    /// `Command::MayListen`. The time is a duration since the epoch. It doesn't allocate, and changes
-    /// nothing.
+    /// `Command::MayListen`. The time is a duration since the epoch. It doesn't allocate, and
+    /// changes nothing.
     ///
     /// # Cost
     ///
@@ -110,9 +111,9 @@ impl<C: PublicKey> Node<C> {
         self.server.may_listen(peer, now)
     }
 
-    /// Asks the node's directory for the address that it holds of the peer, whether or not it may be
-    /// dialled, as [`Node::step`] replies to `Command::Ingress`. It returns `None` if it holds none.
-    /// It allocates only for a name, and changes nothing.
+    /// Asks the node's directory for the address that it holds of the peer, whether or not it may
+    /// be dialled, as [`Node::step`] replies to `Command::Ingress`. It returns `None` if it holds
+    /// none. It allocates only for a name, and changes nothing.
     ///
     /// # Errors
     ///

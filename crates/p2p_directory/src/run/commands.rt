@@ -202,8 +202,8 @@ pub enum Reply<C: PublicKey> {
     /// The result of [`Directory::acceptable`]: whether an inbound connection of the peer may be
     /// accepted.
     Acceptable(bool),
-    /// The result of [`Directory::may_listen`]: whether [`Directory::listen`] would grant the peer a
-    /// reservation.
+    /// The result of [`Directory::may_listen`]: whether [`Directory::listen`] would grant the peer
+    /// a reservation.
     MayListen(bool),
     /// The result of [`Directory::dialable`]: who may be dialled, and when to ask again.
     Dialable(Dialable<C>),
