@@ -13,7 +13,7 @@ use std::alloc::Global;
 use std::fmt;
 
 /// All commands: the name, what is typed after it, and the reply.
-pub static COMMANDS: [(&'static str, &'static str, &'static str); 31] = [
+pub static COMMANDS: [(&'static str, &'static str, &'static str); 33] = [
     (
         "node",
         "NAME [KEY=VALUE ..]",
@@ -36,10 +36,12 @@ pub static COMMANDS: [(&'static str, &'static str, &'static str); 31] = [
     ("all", "", "the peers of all sets"),
     ("status", "P", "Inert, Reserved, Active, None"),
     ("info", "P", "the info that may be shared, or None"),
+    ("ingress", "P", "the address that is held, or None"),
     ("infos", "I BITS T", "the infos that may be shared, or None"),
     ("bits", "PLACE", "the bits of the set there, or None"),
     ("eligible", "P T", "true, false"),
     ("acceptable", "P T", "true, false"),
+    ("may_listen", "P T", "true, false"),
     ("dialable", "T", "the peers, and when to ask again"),
     ("tracked", "", "how many peers have a record"),
     ("ask", "PLACE", "the frame that asks, or None"),
@@ -105,6 +107,7 @@ fn of_a_peer_or_moment(name: &str, words: &mut Words<'_>) -> Result<Command<Test
         "release" => Command::Release(words.peer()?),
         "status" => Command::Status(words.peer()?),
         "info" => Command::Info(words.peer()?),
+        "ingress" => Command::Ingress(words.peer()?),
         "get_peer_set" => Command::GetPeerSet(words.number()?),
         "bits" => Command::GetRandomBitVec(words.size()?),
         "unblock_expired" => Command::UnblockExpired(words.moment()?),
@@ -143,6 +146,10 @@ fn of_a_peer_and_more(name: &str, words: &mut Words<'_>) -> Result<Command<TestK
             peer: words.peer()?,
             now: words.moment()?,
         },
+        "may_listen" => Command::MayListen {
+            peer: words.peer()?,
+            now: words.moment()?,
+        },
         _ => return Err(Fault::Unknown("command", nearest_command(name))),
     })
 }
@@ -157,6 +164,7 @@ impl fmt::Display for Line<'_, Reply<TestKey>> {
             | Reply::LatestSetIndex(None)
             | Reply::LatestUpdate(None)
             | Reply::Info(None)
+            | Reply::Ingress(None)
             | Reply::Infos(None)
             | Reply::GetRandomBitVec(None) => f.write_str("None"),
             Reply::Track(Some(torn)) => write!(f, "Some({})", Line(torn)),
@@ -167,7 +175,8 @@ impl fmt::Display for Line<'_, Reply<TestKey>> {
             Reply::Block(answer)
             | Reply::UnblockExpired(answer)
             | Reply::Eligible(answer)
-            | Reply::Acceptable(answer) => write!(f, "{answer}"),
+            | Reply::Acceptable(answer)
+            | Reply::MayListen(answer) => write!(f, "{answer}"),
             Reply::NextUnblock(Some(moment)) => write!(f, "Some({})", Line(moment)),
             Reply::BlockedPeers(peers) => write!(f, "{}", Line(peers)),
             Reply::Status(Some(status)) => write!(f, "{status:?}"),
@@ -176,6 +185,7 @@ impl fmt::Display for Line<'_, Reply<TestKey>> {
             Reply::LatestUpdate(Some(update)) => write!(f, "Some({})", Line(update)),
             Reply::All(peers) => write!(f, "{}", Line(peers)),
             Reply::Info(Some(info)) => write!(f, "{}", Line(info)),
+            Reply::Ingress(Some(ingress)) => write!(f, "{}", Line(ingress)),
             Reply::Infos(Some(infos)) => write!(f, "Some({})", InfoList(infos.as_slice())),
             Reply::GetRandomBitVec(Some(bits)) => write!(f, "{}", Line(bits)),
             Reply::Dialable(dialable) => write!(f, "{}", Line(dialable)),

@@ -13,6 +13,7 @@ use std::time::Duration;
 mod asks;
 mod decoded;
 mod network;
+mod questions;
 
 const MEBIBYTE: usize = 1 << 20;
 

@@ -27,11 +27,13 @@ fn next(command: &Command<TestKey>) -> Option<&'static str> {
         Command::LatestUpdate => Some("latest_set_index"),
         Command::LatestSetIndex => Some("all"),
         Command::All => Some("info 1"),
-        Command::Info(_) => Some("infos 0 01 100"),
+        Command::Info(_) => Some("ingress 1"),
+        Command::Ingress(_) => Some("infos 0 01 100"),
         Command::Infos { .. } => Some("bits 0"),
         Command::GetRandomBitVec(_) => Some("eligible 1 100"),
         Command::Eligible { .. } => Some("acceptable 1 100"),
-        Command::Acceptable { .. } => Some("dialable 100"),
+        Command::Acceptable { .. } => Some("may_listen 1 100"),
+        Command::MayListen { .. } => Some("dialable 100"),
         Command::Dialable(_) => Some("tracked"),
         Command::Tracked => None,
     }
@@ -67,6 +69,6 @@ fn listed(alloc: Global) -> usize {
 #[test]
 fn each_command_can_be_typed_and_is_listed(rt: HostRuntime) -> Result<(), Fail> {
     let alloc = rt.alloc();
-    assert_eq!(rt; (typed(alloc)?, listed(alloc)), (23, 23));
+    assert_eq!(rt; (typed(alloc)?, listed(alloc)), (25, 25));
     Ok(())
 }
