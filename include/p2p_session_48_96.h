@@ -89,7 +89,7 @@ static inline uint64_t p2p_session_48_96_init(struct p2p_session_48_96 *at, bool
     const uint8_t *bootstrappers, size_t bootstrappers_length,
     const uint8_t *myself, size_t myself_length)
 {
-    (void)p2p_session_interface_cb7ab9f559abf783();
+    (void)p2p_session_interface_982d1876193cea3c();
     const uint64_t numbers[] = {allow_private_ips, allow_dns, max_sets, dial_fail_limit,
         cooldown_seconds, cooldown_nanos, block_seconds, block_nanos, max_bit_vec, max_peers,
         max_data_length, peer_gossip_max_count, bound_seconds, bound_nanos};
@@ -361,6 +361,22 @@ static inline uint64_t p2p_session_48_96_receive(struct p2p_session_48_96 *at,
     const uint64_t numbers[] = {seconds, nanos};
     return p2p_session_48_96_request(at, 31, numbers, 2, frame, frame_length,
         verdicts, verdicts_length, NULL, 0, out, out_length);
+}
+
+// Whether listen of a peer would grant a reservation, memory aside: 1 or 0.
+static inline uint64_t p2p_session_48_96_may_listen(const struct p2p_session_48_96 *at,
+    const uint8_t *peer, size_t peer_length, uint64_t seconds, uint32_t nanos)
+{
+    const uint64_t numbers[] = {seconds, nanos};
+    return p2p_session_48_96_short_request(at, 32, numbers, 2, peer, peer_length);
+}
+
+// The encoded address that is held of a peer, whether or not it may be dialled, or NONE.
+static inline uint64_t p2p_session_48_96_ingress(const struct p2p_session_48_96 *at,
+    const uint8_t *peer, size_t peer_length, uint8_t *out, size_t out_length)
+{
+    return p2p_session_48_96_request(at, 33, NULL, 0, peer, peer_length, NULL, 0, NULL, 0,
+        out, out_length);
 }
 
 #ifdef __cplusplus

@@ -119,7 +119,7 @@ static inline const char *p2p_session_refusal_text(uint64_t answer)
 
 // Returns 1. An archive with other calls, refusals or sizes has no function of this name. The calls
 // named init refer to it, so a host doesn't link with such an archive.
-uint64_t p2p_session_interface_cb7ab9f559abf783(void);
+uint64_t p2p_session_interface_982d1876193cea3c(void);
 
 // Functions that need no session. The exports of these names take no null pointer, so here they are
 // declared by other names.

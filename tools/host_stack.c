@@ -105,6 +105,8 @@ static void call_each(struct p2p_session *session, uint64_t index) {
         need("status", p2p_session_status(session, peer, KEY));
         need("eligible", p2p_session_eligible(session, peer, KEY, 100, 0));
         need("acceptable", p2p_session_acceptable(session, peer, KEY, 100, 0));
+        need("may_listen", p2p_session_may_listen(session, peer, KEY, 100, 0));
+        p2p_session_ingress(session, peer, KEY, out, ROOM);
     }
     ask_all(session, index);
     for (size_t i = 0; i < PEERS; i++) {

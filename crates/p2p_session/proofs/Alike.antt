@@ -21,6 +21,9 @@ use Rattle.p2p_discovery.specs.Fixed.{IsFixed}
 use Rattle.p2p_discovery.specs.Info.{IsInfo, IsKeyed, AreAllowed, infos_spelling}
 use Rattle.p2p_discovery.specs.Laws.BitVec.{lawful_bit_vec}
 use Rattle.p2p_discovery.specs.Laws.Info.{lawful_info, lawful_infos}
+use Rattle.p2p_discovery.specs.Laws.Ingress.{lawful_ingress}
+use Rattle.p2p_discovery.specs.declared.types.ingress.Ingress.{Ingress}
+use Rattle.p2p_discovery.specs.Ingress.{IsIngress, ingress_spelling}
 use Rattle.p2p_discovery.specs.Payload.{up_to}
 use Rattle.p2p_discovery.specs.Reading.{IsBytes}
 use Rattle.p2p_tracker.specs.Calls.{Call, Question, Settings, Event}
@@ -29,6 +32,7 @@ use Rattle.p2p_tracker.specs.Calls.Call.{UnblockExpired, ForgetCooled, Ask}
 use Rattle.p2p_tracker.specs.Calls.Question.{StatusOf, NumberTracked, NextUnblock, BlockedAt}
 use Rattle.p2p_tracker.specs.Calls.Question.{PeerSet, LatestIndex, AllPeers, LatestUpdate, InfoOf}
 use Rattle.p2p_tracker.specs.Calls.Question.{InfosFor, BitsAt, IsEligible, IsAcceptable, DialableAt}
+use Rattle.p2p_tracker.specs.Calls.Question.{IngressOf, MayListen}
 use Rattle.p2p_tracker.specs.World.{World}
 use Rattle.p2p_tracker.specs.declared.directory.PeerSetUpdate.{PeerSetUpdate}
 use Rattle.p2p_tracker.specs.declared.directory.TrackedPeers.{TrackedPeers}
@@ -69,11 +73,13 @@ QuestionForm LatestIndex r = (x : Option ℕ) × (r ≡ reply.LatestSetIndex x)
 QuestionForm {C} {S} AllPeers r = (x : TrackedPeers C S) × (r ≡ reply.All x)
 QuestionForm {C} {S} LatestUpdate r = (x : Option (PeerSetUpdate C S)) × (r ≡ reply.LatestUpdate x)
 QuestionForm {C} {S} (InfoOf p) r = (x : Option (Info C S)) × (r ≡ reply.Info x)
+QuestionForm (IngressOf p) r = (x : Option Ingress) × (r ≡ reply.Ingress x)
 QuestionForm {C} {S} (InfosFor index bits t) r =
     (x : Option (Vec (Info C S) Global)) × (r ≡ reply.Infos x)
 QuestionForm (BitsAt place) r = (x : Option BitVec) × (r ≡ reply.GetRandomBitVec x)
 QuestionForm (IsEligible p t) r = (x : Bool) × (r ≡ reply.Eligible x)
 QuestionForm (IsAcceptable p t) r = (x : Bool) × (r ≡ reply.Acceptable x)
+QuestionForm (MayListen p t) r = (x : Bool) × (r ≡ reply.MayListen x)
 QuestionForm {C} {S} (DialableAt t) r = (x : Dialable C S) × (r ≡ reply.Dialable x)
 
 abbrev pub CallForm : {C S : Type 0} → Call C S → Reply C S → Type 0
@@ -100,10 +106,12 @@ module _ {C S : Type 0} (s : Settings C S) where
   question_form w AllPeers (reply.All x) h = (x, refl)
   question_form w LatestUpdate (reply.LatestUpdate x) h = (x, refl)
   question_form w (InfoOf p) r h = (_, h)
+  question_form w (IngressOf p) r h = (_, h)
   question_form w (InfosFor index bits t) (reply.Infos x) h = (x, refl)
   question_form w (BitsAt place) r h = (_, h)
   question_form w (IsEligible p t) r h = (_, h)
   question_form w (IsAcceptable p t) r h = (_, h)
+  question_form w (MayListen p t) r h = (_, h)
   question_form w (DialableAt t) (reply.Dialable x) h = (x, refl)
   question_form w _ _ h = absurd h
 
@@ -349,6 +357,10 @@ module _ (out out2 : List ℕ) (n : ℕ) (whole : IsWhole out n) where
       plain r (inl h) = absurd (whole.no_want h.1.0)
       plain r (inr h) = h
 
+      ingress_is : (x y : Ingress) → IsIngress x → IsIngress y →
+          ingress_spelling x ≡ ingress_spelling y → x ≡ y
+      ingress_is x y h i e = encoded_is lawful_ingress x y h i e
+
       bits_are : (x y : BitVec) → (x.index < 2 ^ 64) × (length x.bits < 2 ^ 64) →
           (y.index < 2 ^ 64) × (length y.bits < 2 ^ 64) → bit_vec_spelling x ≡ bit_vec_spelling y →
           x ≡ y
@@ -402,6 +414,10 @@ module _ (out out2 : List ℕ) (n : ℕ) (whole : IsWhole out n) where
       questions (InfoOf p) r r2 (x, e) (y, f) = agree r r2 (reply.Info x) (reply.Info y) e f
           (λ h i t u. ap reply.Info (optional_is (info_bytes k) (IsInfoOfKeys k) info_is x y h i
           (plain (reply.Info x) t) (plain (reply.Info y) u)))
+      questions (IngressOf p) r r2 (x, e) (y, f) =
+          agree r r2 (reply.Ingress x) (reply.Ingress y) e f
+          (λ h i t u. ap reply.Ingress (optional_is ingress_spelling IsIngress ingress_is x y h i
+          (plain (reply.Ingress x) t) (plain (reply.Ingress y) u)))
       questions (InfosFor index bits at) r r2 (x, e) (y, f) =
           agree r r2 (reply.Infos x) (reply.Infos y) e f
           (λ h i t u. optional_are (λ v. infos_spelling k.key.spelled k.signature.spelled v.items)
@@ -421,6 +437,10 @@ module _ (out out2 : List ℕ) (n : ℕ) (whole : IsWhole out n) where
           agree r r2 (reply.Acceptable x) (reply.Acceptable y) e f
           (λ h i t u. ap reply.Acceptable
           (truth_is x y (plain (reply.Acceptable x) t) (plain (reply.Acceptable y) u)))
+      questions (MayListen p at) r r2 (x, e) (y, f) =
+          agree r r2 (reply.MayListen x) (reply.MayListen y) e f
+          (λ h i t u. ap reply.MayListen
+          (truth_is x y (plain (reply.MayListen x) t) (plain (reply.MayListen y) u)))
       questions (DialableAt at) r r2 (x, e) (y, f) =
           agree r r2 (reply.Dialable x) (reply.Dialable y) e f
           (λ h i t u. dialable_is x.next_query_at y.next_query_at x.peers.items y.peers.items h.1

@@ -10,6 +10,7 @@ use Rattle.p2p_tracker.specs.Calls.Call.{UnblockExpired, ForgetCooled, Ask}
 use Rattle.p2p_tracker.specs.Calls.Question.{StatusOf, NumberTracked, NextUnblock, BlockedAt}
 use Rattle.p2p_tracker.specs.Calls.Question.{PeerSet, LatestIndex, AllPeers, LatestUpdate, InfoOf}
 use Rattle.p2p_tracker.specs.Calls.Question.{InfosFor, BitsAt, IsEligible, IsAcceptable, DialableAt}
+use Rattle.p2p_tracker.specs.Calls.Question.{IngressOf, MayListen}
 use Rattle.p2p_directory.specs.declared.run.commands.Command.{Command}
 use Rattle.p2p_directory.specs.declared.run.commands.Command.TheVariants as command
 use Rattle.p2p_directory.specs.Run.{call_of}
@@ -74,6 +75,7 @@ module _ {C S : Type 0} where
   has_command (Ask AllPeers) short = (command.All, refl)
   has_command (Ask LatestUpdate) short = (command.LatestUpdate, refl)
   has_command (Ask (InfoOf p)) short = (command.Info p, refl)
+  has_command (Ask (IngressOf p)) short = (command.Ingress p, refl)
   has_command (Ask (InfosFor index bits t)) short = (
     command.Infos (record { index = index; bits = bits }) (moment t),
     ap (λ n. Ask (InfosFor index bits n)) (is_moment t),
@@ -86,6 +88,10 @@ module _ {C S : Type 0} where
   has_command (Ask (IsAcceptable p t)) short = (
     command.Acceptable p (moment t),
     ap (λ n. Ask (IsAcceptable p n)) (is_moment t),
+  )
+  has_command (Ask (MayListen p t)) short = (
+    command.MayListen p (moment t),
+    ap (λ n. Ask (MayListen p n)) (is_moment t),
   )
   has_command (Ask (DialableAt t)) short = (
     command.Dialable (moment t),

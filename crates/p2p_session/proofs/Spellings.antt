@@ -8,7 +8,7 @@ use Rattle.p2p_discovery.specs.Reading.{IsBytes}
 use Rattle.p2p_discovery.specs.Fixed.{IsFixed}
 use Rattle.p2p_tracker.specs.Calls.{Call, Question}
 use Rattle.p2p_tracker.specs.Calls.Call.{Track, Update, Dial, Listen, Connect, Release, Block, UnblockExpired, ForgetCooled, Ask}
-use Rattle.p2p_tracker.specs.Calls.Question.{StatusOf, NumberTracked, NextUnblock, BlockedAt, PeerSet, LatestIndex, AllPeers, LatestUpdate, InfoOf, InfosFor, BitsAt, IsEligible, IsAcceptable, DialableAt}
+use Rattle.p2p_tracker.specs.Calls.Question.{StatusOf, NumberTracked, NextUnblock, BlockedAt, PeerSet, LatestIndex, AllPeers, LatestUpdate, InfoOf, IngressOf, InfosFor, BitsAt, IsEligible, IsAcceptable, MayListen, DialableAt}
 use Rattle.p2p_session.specs.declared.refusal.Refusal.{Refusal}
 use Rattle.p2p_session.specs.declared.refusal.Refusal.TheVariants as refusal
 use Rattle.p2p_session.specs.Given.{Asked, and_then, key_at, moment_at, or_bad}
@@ -131,10 +131,12 @@ module _ {C S : Type 0} (k : Scheme C S)
   of_question AllPeers = spelling 19 [] [] [] []
   of_question LatestUpdate = spelling 18 [] [] [] []
   of_question (InfoOf p) = spelling 20 [] (k.key.spelled p) [] []
+  of_question (IngressOf p) = spelling 33 [] (k.key.spelled p) [] []
   of_question (InfosFor index bits t) = spelling 0 [] [] [] []
   of_question (BitsAt place) = spelling 22 (place ∷ []) [] [] []
   of_question (IsEligible p t) = spelling 23 (s_of t ∷ n_of t ∷ []) (k.key.spelled p) [] []
   of_question (IsAcceptable p t) = spelling 24 (s_of t ∷ n_of t ∷ []) (k.key.spelled p) [] []
+  of_question (MayListen p t) = spelling 32 (s_of t ∷ n_of t ∷ []) (k.key.spelled p) [] []
   of_question (DialableAt t) = spelling 25 (s_of t ∷ n_of t ∷ []) [] [] []
 
   abbrev of_call : Call C S → Spelling
@@ -242,8 +244,9 @@ module _ {C S : Type 0} (k : Scheme C S)
       pick P number 9 (Infos bytes) _ r (λ e. inl (cc)) (
       pick P number 15 (Numbered (of_peer k bytes (λ p. Ask (StatusOf p)))) _ r (λ e. peer_is (λ x. P (Numbered x)) (λ p. Ask (StatusOf p)) bytes are (λ p is. inl (cc)) (numbered (spelling number [] bytes [] []))) (
       pick P number 20 (Written (of_peer k bytes (λ p. Ask (InfoOf p)))) _ r (λ e. peer_is (λ x. P (Written x)) (λ p. Ask (InfoOf p)) bytes are (λ p is. inl (cc)) (written (spelling number [] bytes [] []))) (
+      pick P number 33 (Written (of_peer k bytes (λ p. Ask (IngressOf p)))) _ r (λ e. peer_is (λ x. P (Written x)) (λ p. Ask (IngressOf p)) bytes are (λ p is. inl (cc)) (written (spelling number [] bytes [] []))) (
       (λ h. let w = when_is (is_empty bytes) (of_nothing k number) r h in
-      subst (λ b. Back (spelling number [] b [] []) r) (sym (empty bytes w.0)) (nothing_back number r w.1)))))))
+      subst (λ b. Back (spelling number [] b [] []) r) (sym (empty bytes w.0)) (nothing_back number r w.1))))))))
 
   moment_back : (number s n : ℕ) (r : Request C S) → of_moment k number s n ≡ Some r →
       Back (spelling number (s ∷ n ∷ []) [] [] []) r
@@ -263,9 +266,10 @@ module _ {C S : Type 0} (k : Scheme C S)
       pick P number 21 (Bits bytes s n) _ r (λ e. inl (cc)) (
       pick P number 23 (Numbered (of_peer_at k bytes s n (λ p now. Ask (IsEligible p now)))) _ r (λ e. peer_time_is (λ x. P (Numbered x)) (λ p now. Ask (IsEligible p now)) bytes s n are (λ p t ep es en. inl (cc)) (numbered (spelling number (s ∷ n ∷ []) bytes [] []))) (
       pick P number 24 (Numbered (of_peer_at k bytes s n (λ p now. Ask (IsAcceptable p now)))) _ r (λ e. peer_time_is (λ x. P (Numbered x)) (λ p now. Ask (IsAcceptable p now)) bytes s n are (λ p t ep es en. inl (cc)) (numbered (spelling number (s ∷ n ∷ []) bytes [] []))) (
+      pick P number 32 (Numbered (of_peer_at k bytes s n (λ p now. Ask (MayListen p now)))) _ r (λ e. peer_time_is (λ x. P (Numbered x)) (λ p now. Ask (MayListen p now)) bytes s n are (λ p t ep es en. inl (cc)) (numbered (spelling number (s ∷ n ∷ []) bytes [] []))) (
       pick P number 30 (Looking (Check bytes s n)) _ r (λ e. inl (cc)) (
       (λ h. let w = when_is (is_empty bytes) (of_moment k number s n) r h in
-      subst (λ b. Back (spelling number (s ∷ n ∷ []) b [] []) r) (sym (empty bytes w.0)) (moment_back number s n r w.1)))))))
+      subst (λ b. Back (spelling number (s ∷ n ∷ []) b [] []) r) (sym (empty bytes w.0)) (moment_back number s n r w.1))))))))
 
   frame_back : (number : ℕ) (first second : List ℕ) (s n : ℕ) → IsBytes first → (r : Request C S) →
       of_frame k number first second s n ≡ Some r → Back (spelling number (s ∷ n ∷ []) first second []) r

@@ -91,6 +91,7 @@ module _ {C S : Type 0} (k : Scheme C S) where
       IfSome update (λ u. (u.index < 2 ^ 64) × ArePeers u.latest × ArePeers u.all)
   HasValues (reply.All peers) = ArePeers peers
   HasValues (reply.Info info) = IfSome info (IsInfoOfKeys k)
+  HasValues (reply.Ingress ingress) = IfSome ingress IsIngress
   HasValues (reply.Infos infos) =
       IfSome infos (λ v. AllByRecursion (IsInfoOfKeys k) v.items × (length v.items < 2 ^ 32))
   HasValues (reply.GetRandomBitVec bits) =

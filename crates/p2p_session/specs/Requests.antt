@@ -7,6 +7,7 @@ use Rattle.p2p_tracker.specs.Calls.Call.{ForgetCooled, Ask}
 use Rattle.p2p_tracker.specs.Calls.Question.{StatusOf, NumberTracked, NextUnblock, BlockedAt}
 use Rattle.p2p_tracker.specs.Calls.Question.{PeerSet, LatestIndex, AllPeers, LatestUpdate, InfoOf}
 use Rattle.p2p_tracker.specs.Calls.Question.{BitsAt, IsEligible, IsAcceptable, DialableAt}
+use Rattle.p2p_tracker.specs.Calls.Question.{IngressOf, MayListen}
 use Rattle.p2p_session.specs.declared.refusal.Refusal.{Refusal}
 use Rattle.p2p_session.specs.declared.session.Session.{Session}
 use Rattle.p2p_session.specs.declared.setup.Numbers.{Numbers}
@@ -88,6 +89,7 @@ module _ {C S : Type 0} (k : Scheme C S) where
       else if number == 9 then Some (Infos bytes)
       else if number == 15 then Some (Numbered (of_peer k bytes (λ p. Ask (StatusOf p))))
       else if number == 20 then Some (Written (of_peer k bytes (λ p. Ask (InfoOf p))))
+      else if number == 33 then Some (Written (of_peer k bytes (λ p. Ask (IngressOf p))))
       else when (is_empty bytes) (of_nothing number)
 
   -- .. a number, and bytes or none:
@@ -122,6 +124,8 @@ module _ {C S : Type 0} (k : Scheme C S) where
       Some (Numbered (of_peer_at k bytes seconds nanos (λ p now. Ask (IsEligible p now))))
       else if number == 24 then
       Some (Numbered (of_peer_at k bytes seconds nanos (λ p now. Ask (IsAcceptable p now))))
+      else if number == 32 then
+      Some (Numbered (of_peer_at k bytes seconds nanos (λ p now. Ask (MayListen p now))))
       else if number == 30 then Some (Looking (Check bytes seconds nanos))
       else when (is_empty bytes) (of_moment number seconds nanos)
 

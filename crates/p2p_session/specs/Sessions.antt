@@ -3,6 +3,7 @@ use Rattle.std.specs.Prelude.{◌≡◌, ◌⊎◌, ℕ, ◌*◌, ◌<◌, ◌�
 use Rattle.std.specs.Prelude.{Some, None, Ok, Err, true, false, is_some, option_map}
 use Rattle.std.specs.Duration.{as_nanos}
 use Rattle.p2p_discovery.specs.BitVec.{bit_vec_spelling}
+use Rattle.p2p_discovery.specs.Ingress.{ingress_spelling}
 use Rattle.p2p_discovery.specs.Info.{infos_spelling}
 use Rattle.p2p_tracker.specs.Calls.{Call}
 use Rattle.p2p_tracker.specs.Calls.Call.{Update, Ask}
@@ -91,11 +92,13 @@ module _ {C S : Type 0} (k : Scheme C S) where
   answer_to (reply.LatestUpdate update) = optional (update_bytes k) update
   answer_to (reply.All peers) = Bytes (peers_bytes k peers)
   answer_to (reply.Info info) = optional (info_bytes k) info
+  answer_to (reply.Ingress ingress) = optional ingress_spelling ingress
   answer_to (reply.Infos infos) =
       optional (λ v. infos_spelling k.key.spelled k.signature.spelled v.items) infos
   answer_to (reply.GetRandomBitVec bits) = optional bit_vec_spelling bits
   answer_to (reply.Eligible is) = truth is
   answer_to (reply.Acceptable is) = truth is
+  answer_to (reply.MayListen is) = truth is
   answer_to (reply.Dialable d) =
       Bytes (dialable_bytes k (option_map as_nanos d.next_query_at) d.peers.items)
   answer_to (reply.Tracked n) = Is n

@@ -5,7 +5,8 @@ ghost use Rattle.p2p_session.specs.Given.{asked, and_then, IsRead, ArePeersRead,
 ghost use Rattle.p2p_session.specs.Given.{bits_spelled};
 ghost use Rattle.p2p_session.specs.Sessions.{of_peer, at_moment};
 ghost use Rattle.p2p_tracker.specs.Calls.Call.{Ask, Update};
-ghost use Rattle.p2p_tracker.specs.Calls.Question.{BlockedAt, InfoOf, DialableAt, InfosFor};
+ghost use Rattle.p2p_tracker.specs.Calls.Question.{BlockedAt, InfoOf, IngressOf, DialableAt};
+ghost use Rattle.p2p_tracker.specs.Calls.Question.{InfosFor};
 
 use crate::given::{are_keys, bits, infos, key, moment, set};
 use crate::refusal::Refusal;
@@ -61,6 +62,12 @@ pub fn info<C: PublicKey>(peer: &[u8]) -> Result<Command<C>, Refusal>
     ensures { asked result ≡ of_peer ⟦<C as Keys>⟧.scheme peer.now (λ p. Ask (InfoOf p)) }
 {
     Ok(Command::Info(key(peer).ok_or(Refusal::BadKey)?))
+}
+
+pub fn ingress<C: PublicKey>(peer: &[u8]) -> Result<Command<C>, Refusal>
+    ensures { asked result ≡ of_peer ⟦<C as Keys>⟧.scheme peer.now (λ p. Ask (IngressOf p)) }
+{
+    Ok(Command::Ingress(key(peer).ok_or(Refusal::BadKey)?))
 }
 
 pub fn dialable<C: PublicKey>(seconds: u64, nanos: u32) -> Result<Command<C>, Refusal>

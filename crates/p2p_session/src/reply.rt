@@ -36,6 +36,7 @@ pub fn tell<C: PublicKey>(alloc: Global, reply: Reply<C>, out: &mut [u8]) -> u64
         Reply::Track(torn) => tell_set(torn, out),
         Reply::Dial(is) | Reply::Listen(is) | Reply::Block(is) => u64::from(is),
         Reply::UnblockExpired(is) | Reply::Eligible(is) | Reply::Acceptable(is) => u64::from(is),
+        Reply::MayListen(is) => u64::from(is),
         Reply::Connect | Reply::Release | Reply::UpdatePeers => 1,
         Reply::ForgetCooled(count) | Reply::Tracked(count) => count as u64,
         Reply::NextUnblock(moment) => tell_moment(moment, out),
@@ -46,6 +47,7 @@ pub fn tell<C: PublicKey>(alloc: Global, reply: Reply<C>, out: &mut [u8]) -> u64
         Reply::LatestUpdate(update) => tell_update(update, out),
         Reply::All(peers) => answer_peers(&peers, out),
         Reply::Info(Some(info)) => answer_one(Values::Info(&info), out),
+        Reply::Ingress(ingress) => tell_ingress(&ingress, out),
         Reply::Infos(Some(infos)) => tell_infos(&infos, out),
         Reply::GetRandomBitVec(Some(bits)) => tell_spelled(alloc, &bits, out),
         Reply::Info(None) | Reply::Infos(None) | Reply::GetRandomBitVec(None) => {
@@ -94,6 +96,16 @@ fn tell_dialler(ingress: &Ingress, out: &mut [u8]) -> u64
     }
     let bytes = ingress.encoded();
     answer(&[Plain(&[1]), Plain(bytes.as_slice())], out)
+}
+
+// Writes, as the session's reply, an encoded ingress, if there is one.
+fn tell_ingress(ingress: &Option<Ingress>, out: &mut [u8]) -> u64
+    ensures { Tells (optional ingress_spelling ingress.now) out.old out.new result }
+{
+    match ingress {
+        Some(ingress) => answer_bytes(ingress.encoded().as_slice(), out),
+        None => Refusal::Absent.number(),
+    }
 }
 
 fn tell_set<C: PublicKey>(set: Option<OrderedSet<C>>, out: &mut [u8]) -> u64

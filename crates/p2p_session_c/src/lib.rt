@@ -29,7 +29,7 @@ pub struct Handle {
 /// the pairs of sizes, and of the number of the forms of answers. So a host that was compiled with
 /// others doesn't link.
 #[unsafe(no_mangle)]
-pub extern "C" fn p2p_session_interface_cb7ab9f559abf783() -> u64
+pub extern "C" fn p2p_session_interface_982d1876193cea3c() -> u64
     ensures { result ≡ 1 }
 {
     1

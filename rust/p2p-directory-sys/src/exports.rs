@@ -36,7 +36,7 @@ pub const BAD_CALL: u64 = u64::MAX - 13;
 
 unsafe extern "C" {
     // Only an archive with the same calls, refusals and pairs of sizes has this name.
-    #[link_name = "p2p_session_interface_cb7ab9f559abf783"]
+    #[link_name = "p2p_session_interface_982d1876193cea3c"]
     pub(crate) safe fn interface() -> u64;
 }
 

@@ -3,9 +3,9 @@
 ghost use Rattle.std.specs.Prelude.{List, ℕ, Ok, []};
 ghost use Rattle.p2p_tracker.specs.Calls.Call.{Ask};
 ghost use Rattle.p2p_tracker.specs.Calls.Question.{AllPeers, BitsAt, BlockedAt, DialableAt};
-ghost use Rattle.p2p_tracker.specs.Calls.Question.{InfoOf, IsAcceptable, IsEligible, LatestIndex};
-ghost use Rattle.p2p_tracker.specs.Calls.Question.{LatestUpdate, NextUnblock, NumberTracked};
-ghost use Rattle.p2p_tracker.specs.Calls.Question.{PeerSet, StatusOf};
+ghost use Rattle.p2p_tracker.specs.Calls.Question.{InfoOf, IngressOf, IsAcceptable, IsEligible};
+ghost use Rattle.p2p_tracker.specs.Calls.Question.{LatestIndex, LatestUpdate, MayListen};
+ghost use Rattle.p2p_tracker.specs.Calls.Question.{NextUnblock, NumberTracked, PeerSet, StatusOf};
 ghost use Rattle.p2p_session.specs.Sessions.{Looks, Serves, ServesRead, at_moment, infos_for};
 ghost use Rattle.p2p_session.specs.Sessions.{of_peer, of_peer_at};
 ghost use Rattle.p2p_session.specs.Sessions.Look.{Held, NextCooled, Retained};
@@ -127,6 +127,16 @@ impl<C: PublicKey> Session<C> {
         self.serve(commands::info(peer), out)
     }
 
+    /// Asks the session's node by `Directory::ingress`: the encoded address that it holds of the
+    /// peer, or `None`.
+    #[inline(never)]
+    pub fn ingress(&mut self, peer: &[u8], out: &mut [u8]) -> u64
+        ensures { let k = ⟦<C as Keys>⟧.scheme in Serves k (of_peer k peer.now (λ p. Ask
+            (IngressOf p))) out.old out.new self.old.node self.new.node result }
+    {
+        self.serve(commands::ingress(peer), out)
+    }
+
     /// Asks the session's node by `Directory::get_random_bit_vec`: the encoded bits with their
     /// index, or `None`.
     #[inline(never)]
@@ -169,6 +179,22 @@ impl<C: PublicKey> Session<C> {
         }
     }
 
+    /// Asks the session's node by `Directory::may_listen`: 1 or 0.
+    #[inline(never)]
+    pub fn may_listen(&mut self, peer: &[u8], seconds: u64, nanos: u32) -> u64
+        ensures { let k = ⟦<C as Keys>⟧.scheme in Serves k (of_peer_at k peer.now seconds nanos (λ
+            p now. Ask (MayListen p now))) [] [] self.old.node self.new.node result }
+    {
+        let Some(node) = &self.node else {
+            return Refusal::NoNode.number();
+        };
+        match (key(peer), moment(seconds, nanos)) {
+            (Some(peer), Ok(now)) => truth_of(node.may_listen(&peer, now)),
+            (None, _) => Refusal::BadKey.number(),
+            (Some(_), Err(refusal)) => refusal.number(),
+        }
+    }
+
     /// Asks the session's node by `Directory::dialable`: whether a time to ask again follows, that
     /// time, and the keys.
     #[inline(never)]
@@ -201,7 +227,7 @@ impl<C: PublicKey> Session<C> {
         let Some(node) = &self.node else {
             return Refusal::NoNode.number();
         };
-        node.directory().retained() as u64
+        node.retained() as u64
     }
 
     /// Asks the session's node by `Directory::next_cooled`: the time, or `None`.
@@ -213,7 +239,7 @@ impl<C: PublicKey> Session<C> {
         let Some(node) = &self.node else {
             return Refusal::NoNode.number();
         };
-        tell_moment(node.directory().next_cooled(), out)
+        tell_moment(node.next_cooled(), out)
     }
 
     /// Asks the session's node whom the reservation held of a peer is for: byte 0 for an inbound

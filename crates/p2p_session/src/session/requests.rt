@@ -129,6 +129,7 @@ impl<C: PublicKey> Session<C> {
             }
             (23, [seconds, nanos]) => self.eligible(peer, *seconds, nanos_of(*nanos)),
             (24, [seconds, nanos]) => self.acceptable(peer, *seconds, nanos_of(*nanos)),
+            (32, [seconds, nanos]) => self.may_listen(peer, *seconds, nanos_of(*nanos)),
             (_, [_, _, _, _]) => self.call_with_draw(number, peer, numbers),
             _ => self.call_of_any(alloc, number, numbers, peer),
         }
@@ -172,6 +173,7 @@ impl<C: PublicKey> Session<C> {
             9 => self.update_peers(alloc, bytes),
             15 => self.status(bytes),
             20 => self.info(alloc, bytes, out),
+            33 => self.ingress(bytes, out),
             _ if bytes.is_empty() => self.call_of_nothing(number, out),
             _ => Refusal::BadCall.number(),
         }
@@ -236,6 +238,7 @@ impl<C: PublicKey> Session<C> {
             21 => self.infos(alloc, bytes, seconds, nanos, out),
             23 => self.eligible(bytes, seconds, nanos),
             24 => self.acceptable(bytes, seconds, nanos),
+            32 => self.may_listen(bytes, seconds, nanos),
             30 => self.check(alloc, bytes, seconds, nanos, out),
             _ if bytes.is_empty() => self.call_of_moment(number, time, out),
             _ => Refusal::BadCall.number(),
