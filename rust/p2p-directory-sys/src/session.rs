@@ -386,4 +386,16 @@ impl<C: Caller> Session<C> {
     ) -> u64 {
         self.call(31, &[seconds, nanos.into()], [frame, verdicts, &[]], out)
     }
+
+    /// Whether listen of a peer would grant a reservation, memory aside: 1 or 0.
+    #[inline]
+    pub fn may_listen(&self, peer: &[u8], seconds: u64, nanos: u32) -> u64 {
+        self.call_peer(32, &[seconds, nanos.into()], peer)
+    }
+
+    /// The encoded address that is held of a peer, whether or not it may be dialled, or NONE.
+    #[inline]
+    pub fn ingress(&self, peer: &[u8], out: &mut [u8]) -> u64 {
+        self.call(33, &[], [peer, &[], &[]], out)
+    }
 }

@@ -90,8 +90,10 @@ fn a_bad_key_is_refused_by_each_call() {
         session.info(bad, &mut out),
         session.eligible(bad, 1, 0),
         session.acceptable(bad, 1, 0),
+        session.may_listen(bad, 1, 0),
+        session.ingress(bad, &mut out),
     ];
-    assert_eq!(answers, [BAD_KEY; 10]);
+    assert_eq!(answers, [BAD_KEY; 12]);
     let keys = [key(2), key(4)].concat();
     assert_eq!(session.track(1, &keys, &[], &mut out), BAD_KEYS);
     assert_eq!(session.track(1, &[], &keys, &mut out), BAD_KEYS);
@@ -104,7 +106,7 @@ fn a_bad_key_is_refused_by_each_call() {
 }
 
 // What each call with a moment answers: with a moment that can't be read, or a draw.
-fn with_bad_moments(session: &Session, peer: &[u8]) -> [u64; 8] {
+fn with_bad_moments(session: &Session, peer: &[u8]) -> [u64; 9] {
     [
         session.dial(peer, 1, NANOS, 0, 0),
         session.dial(peer, 1, 0, 0, NANOS),
@@ -114,6 +116,7 @@ fn with_bad_moments(session: &Session, peer: &[u8]) -> [u64; 8] {
         session.block(peer, 1, u32::MAX),
         session.eligible(peer, 1, NANOS),
         session.acceptable(peer, 1, NANOS),
+        session.may_listen(peer, 1, NANOS),
     ]
 }
 
@@ -121,9 +124,9 @@ fn with_bad_moments(session: &Session, peer: &[u8]) -> [u64; 8] {
 fn a_bad_key_comes_before_a_bad_moment() {
     let session = session();
     for first in [0, 1, 4, 255] {
-        assert_eq!(with_bad_moments(&session, &key(first)), [BAD_KEY; 8]);
+        assert_eq!(with_bad_moments(&session, &key(first)), [BAD_KEY; 9]);
     }
-    assert_eq!(with_bad_moments(&session, &key(2)), [BAD_MOMENT; 8]);
+    assert_eq!(with_bad_moments(&session, &key(2)), [BAD_MOMENT; 9]);
 }
 
 #[test]

@@ -84,6 +84,7 @@ pub(crate) enum Kind {
     Frame,
     Info,
     Infos,
+    Ingress,
     PeerSet,
     Update,
 }

@@ -28,6 +28,8 @@ tests_of_each_pair! {
     infos_are_those_that_may_be_shared,
     edges_of_indices_and_of_what_is_refused,
     secondary_peers_come_but_are_not_dialled,
+    who_may_listen_is_granted,
+    the_address_that_is_held_is_told,
     a_blocked_peer_is_asked_for_again_at_its_end,
     a_later_bootstrapper_replaces_an_earlier_one,
     answers_longer_than_their_room_come_whole,
@@ -395,6 +397,50 @@ fn secondary_peers_come_but_are_not_dialled<P: Pair>() {
     assert_eq!(track(&mut directory, 2, &[]), Some(set(&[])));
     assert_eq!(track(&mut directory, 3, &[]), Some(set(&[2])));
     directory.release(reservation).unwrap();
+}
+
+fn who_may_listen_is_granted<P: Pair>() {
+    let mut directory = directory::<P>();
+    track(&mut directory, 0, &[1]);
+    for number in [2, 9] {
+        assert!(!directory.may_listen(&key::<P>(number), seconds(100)));
+        assert!(listen(&mut directory, number, seconds(100)).is_none());
+    }
+    let may_listen = |directory: &Directory<P>, now| directory.may_listen(&key::<P>(1), now);
+    assert!(may_listen(&directory, seconds(100)));
+    let held = listen(&mut directory, 1, seconds(100)).unwrap();
+    assert!(!may_listen(&directory, seconds(200)));
+    directory.release(held).unwrap();
+    assert!(!may_listen(&directory, nanos(109, 999_999_999)));
+    assert!(may_listen(&directory, seconds(110)));
+    assert!(directory.block(&key::<P>(1), seconds(110)).unwrap());
+    assert!(!may_listen(&directory, nanos(169, 999_999_999)));
+    assert!(may_listen(&directory, seconds(170)));
+    let granted = listen(&mut directory, 1, seconds(170));
+    directory.release(granted.expect("it may listen")).unwrap();
+}
+
+fn the_address_that_is_held_is_told<P: Pair>() {
+    let mut directory = directory::<P>();
+    let told = |directory: &Directory<P>, number| directory.ingress(&key::<P>(number)).unwrap();
+    assert_eq!(told(&directory, 1), None);
+    track(&mut directory, 0, &[1]);
+    assert_eq!(told(&directory, 1), None);
+    let older = info::<P>(1, 1000);
+    directory
+        .update_peers(std::slice::from_ref(&older))
+        .unwrap();
+    let held = listen(&mut directory, 1, seconds(100)).unwrap();
+    assert_eq!(told(&directory, 1), Some(older.ingress));
+    let mut newer = info::<P>(1, 1001);
+    newer.ingress = "peer.example:80".parse().unwrap();
+    directory
+        .update_peers(std::slice::from_ref(&newer))
+        .unwrap();
+    assert_eq!(told(&directory, 1), Some(newer.ingress));
+    directory.release(held).unwrap();
+    let own = directory.info(&key::<P>(9)).unwrap();
+    assert_eq!(told(&directory, 9), own.map(|own| own.ingress));
 }
 
 fn a_blocked_peer_is_asked_for_again_at_its_end<P: Pair>() {

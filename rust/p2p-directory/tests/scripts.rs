@@ -29,42 +29,44 @@ const LEFT_OUT: [(&str, usize); 5] = [
 ];
 
 /// The minimum number of lines of each command, and of lines that can't be parsed.
-const PLAYED: [(&str, usize); 31] = [
+const PLAYED: [(&str, usize); 33] = [
     ("acceptable", 22),
     ("all", 17),
     ("ask", 22),
     ("bits", 137),
-    ("block", 42),
+    ("block", 44),
     ("blocked_peers", 19),
-    ("connect", 69),
+    ("connect", 71),
     ("decode", 26),
-    ("dial", 78),
-    ("dialable", 47),
+    ("dial", 79),
+    ("dialable", 48),
     ("eligible", 33),
     ("error", 77),
     ("exchange", 49),
-    ("forget_cooled", 10),
+    ("forget_cooled", 11),
     ("frame", 9),
     ("get_peer_set", 20),
     ("info", 40),
     ("infos", 10),
+    ("ingress", 15),
     ("latest_set_index", 12),
     ("latest_update", 12),
-    ("listen", 116),
+    ("listen", 127),
+    ("may_listen", 17),
     ("next_unblock", 24),
-    ("node", 129),
+    ("node", 138),
     ("receive", 44),
     ("recode", 3),
-    ("release", 81),
+    ("release", 85),
     ("status", 57),
-    ("track", 196),
+    ("track", 205),
     ("tracked", 20),
     ("unblock_expired", 25),
-    ("update", 83),
+    ("update", 89),
 ];
 
 /// The minimum number of replies that are compared.
-const COMPARED: u64 = 1_384;
+const COMPARED: u64 = 1_453;
 
 /// How many lines there are of each kind or command.
 type Counts = BTreeMap<String, usize>;

@@ -32,7 +32,7 @@ const fn call(name: &'static str, parameters: &'static [(&'static str, Form)]) -
 
 /// The calls in the order of their numbers, which begin at 1.
 #[rustfmt::skip]
-pub(crate) const CALLS: [CallForm; 31] = [
+pub(crate) const CALLS: [CallForm; 33] = [
     call("init", &[
         ("allow_private_ips", Flag), ("allow_dns", Flag), ("max_sets", Number),
         ("dial_fail_limit", Number), ("cooldown_seconds", Number), ("cooldown_nanos", Small),
@@ -79,4 +79,6 @@ pub(crate) const CALLS: [CallForm; 31] = [
     call("receive", &[
         ("frame", Frame), ("seconds", Number), ("nanos", Small), ("verdicts", Bytes), ("out", Room),
     ]),
+    call("may_listen", &[("peer", Bytes), ("seconds", Number), ("nanos", Small)]),
+    call("ingress", &[("peer", Bytes), ("out", Room)]),
 ];

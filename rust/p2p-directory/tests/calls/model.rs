@@ -144,7 +144,7 @@ impl<P: Pair> Model<P> {
             Call::LatestSetIndex => shown(self.sets.last().map(|set| set.0)),
             Call::All => shown(self.all()),
             Call::Status(peer) => shown(self.is_present(peer).then(|| self.status(peer))),
-            Call::Info(peer) => shown(self.sharable(peer)),
+            Call::Info(peer) => shown((self.sharable(peer), self.ingress(peer))),
             Call::Infos(bit_vec, now) => {
                 let infos = self.infos(bit_vec, *now);
                 let cuts = CUTS.map(|(count, draw)| Some(cut(infos.clone()?, count, draw)));
@@ -157,7 +157,7 @@ impl<P: Pair> Model<P> {
             ),
             Call::Eligible(peer, now) => shown(self.is_eligible(peer, *now)),
             Call::Acceptable(peer, now) => {
-                shown(self.is_eligible(peer, *now) && self.status(peer) == Status::Inert)
+                shown((self.is_acceptable(peer, *now), self.may_listen(peer, *now)))
             }
             Call::Dialable(now) => shown(self.dialable(*now)),
             Call::Tracked => shown((self.tracked(), self.retained().len())),
@@ -242,6 +242,14 @@ impl<P: Pair> Model<P> {
         }
     }
 
+    /// The address that is held of the peer: of the local node its own.
+    pub fn ingress(&self, peer: &P::Key) -> Option<Ingress> {
+        if *peer == self.own() {
+            return Some(self.setup.myself.ingress.clone());
+        }
+        self.address(peer).cloned()
+    }
+
     fn has_valid_address(&self, peer: &P::Key) -> bool {
         match self.address(peer) {
             None => false,
@@ -272,6 +280,17 @@ impl<P: Pair> Model<P> {
 
     pub fn is_eligible(&self, peer: &P::Key, now: Moment) -> bool {
         self.is_entitled(peer) && !self.is_blocked(peer, now)
+    }
+
+    pub fn is_acceptable(&self, peer: &P::Key, now: Moment) -> bool {
+        self.is_eligible(peer, now) && self.status(peer) == Status::Inert
+    }
+
+    /// Whether a listen of the peer would be granted.
+    pub fn may_listen(&self, peer: &P::Key, now: Moment) -> bool {
+        let cooldown = self.cooldowns.get(peer);
+        let is_cooling = cooldown.is_some_and(|cooldown| now < cooldown.reservable);
+        !is_cooling && self.is_acceptable(peer, now)
     }
 
     // What was known of a peer is removed when it isn't present any more.
@@ -311,12 +330,7 @@ impl<P: Pair> Model<P> {
         draw: Duration,
         is_dial: bool,
     ) -> Option<Metadata<P>> {
-        let cooling = self
-            .cooldowns
-            .get(peer)
-            .is_some_and(|cooldown| now < cooldown.reservable);
-        let is_free = self.is_eligible(peer, now) && self.status(peer) == Status::Inert;
-        if cooling || !is_free || is_dial && !self.is_target(peer) {
+        if !self.may_listen(peer, now) || is_dial && !self.is_target(peer) {
             return None;
         }
         let interval = self.setup.cfg.peer_connection_cooldown;

@@ -117,16 +117,14 @@ fn asked<P: Pair>(model: &Model<P>, name: &str, fields: &Fields<'_, '_, P>) -> O
         })),
         "status" => status(model, fields)?,
         "eligible" => Told::truth(model.is_eligible(&fields.peer()?, fields.now()?)),
-        "acceptable" => {
-            let peer = fields.peer()?;
-            let is_inert = model.status(&peer) == Status::Inert;
-            Told::truth(is_inert && model.is_eligible(&peer, fields.now()?))
-        }
+        "acceptable" => Told::truth(model.is_acceptable(&fields.peer()?, fields.now()?)),
+        "may_listen" => Told::truth(model.may_listen(&fields.peer()?, fields.now()?)),
         "next_unblock" => Told::of_option(model.next_unblock().map(moment_bytes)),
         "next_cooled" => Told::of_option(model.next_cooled().map(moment_bytes)),
         "blocked_peers" => Told::Bytes(key_bytes(&model.blocked_peers(fields.now()?))),
         "dialable" => Told::Bytes(dialable(model, fields.now()?)),
         "info" => Told::of_option(model.sharable(&fields.peer()?).map(|info| info.encode())),
+        "ingress" => Told::of_option(model.ingress(&fields.peer()?).map(|held| held.encode())),
         "infos" => {
             let infos = model.infos(&fields.bit_vec()?, fields.now()?);
             Told::of_option(infos.map(|infos| untagged(Payload::Peers(infos))))

@@ -107,7 +107,10 @@ impl<P: Pair> Real<P> {
             Call::LatestSetIndex => shown(directory.latest_set_index()),
             Call::All => shown(directory.all().expect(MEMORY)),
             Call::Status(peer) => shown(directory.status(peer)),
-            Call::Info(peer) => shown(directory.info(peer).expect(MEMORY)),
+            Call::Info(peer) => shown((
+                directory.info(peer).expect(MEMORY),
+                directory.ingress(peer).expect(MEMORY),
+            )),
             Call::Infos(bit_vec, now) => {
                 let infos = directory.infos(bit_vec, *now).expect(MEMORY);
                 let cut = |(count, draw)| self.node.reply_at_most(bit_vec, *now, count, draw);
@@ -116,7 +119,10 @@ impl<P: Pair> Real<P> {
             Call::Bits(place) => shown(directory.get_random_bit_vec(*place).expect(MEMORY)),
             Call::Ask(place) => shown(self.node.ask(*place).expect(MEMORY)),
             Call::Eligible(peer, now) => shown(directory.eligible(peer, *now)),
-            Call::Acceptable(peer, now) => shown(directory.acceptable(peer, *now)),
+            Call::Acceptable(peer, now) => shown((
+                directory.acceptable(peer, *now),
+                directory.may_listen(peer, *now),
+            )),
             Call::Dialable(now) => {
                 let told = directory.dialable(*now).expect(MEMORY);
                 shown((told.peers, told.next_query_at))

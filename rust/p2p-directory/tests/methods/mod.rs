@@ -45,7 +45,7 @@ const fn nanos(place: u32) -> u32 {
 }
 
 /// Each method, with arguments that tell their places and names.
-const METHODS: [(&str, Method); 31] = [
+const METHODS: [(&str, Method); 33] = [
     ("init", init),
     ("track", |session, out| {
         session.track(number(0), b"primary", b"secondary", out)
@@ -109,6 +109,10 @@ const METHODS: [(&str, Method); 31] = [
     ("receive", |session, out| {
         session.receive(b"frame", number(0), nanos(1), b"verdicts", out)
     }),
+    ("may_listen", |session, _| {
+        session.may_listen(b"peer", number(0), nanos(1))
+    }),
+    ("ingress", |session, out| session.ingress(b"peer", out)),
 ];
 
 fn init(session: &Session<Kept>, _: &mut [u8]) -> u64 {

@@ -37,11 +37,15 @@ fn tell_peers<P: Pair>(told: &mut Vec<String>, directory: &Directory<P>) {
         let peer = key::<P>(number);
         let status = directory.status(&peer);
         let info = directory.info(&peer).unwrap();
-        told.push(format!("{number}: {status:?} {info:?}"));
+        let ingress = directory.ingress(&peer).unwrap();
+        told.push(format!("{number}: {status:?} {info:?} {ingress:?}"));
         for moment in MOMENTS.map(seconds) {
             let eligible = directory.eligible(&peer, moment);
             let acceptable = directory.acceptable(&peer, moment);
-            told.push(format!("{number} at {moment:?}: {eligible} {acceptable}"));
+            let listens = directory.may_listen(&peer, moment);
+            told.push(format!(
+                "{number} at {moment:?}: {eligible} {acceptable} {listens}"
+            ));
         }
     }
 }
@@ -124,6 +128,11 @@ pub fn quiet_calls<P: Pair>() -> Vec<Quiet<P>> {
         Quiet {
             name: "acceptable",
             call: |state| text(state.directory().acceptable(&key::<P>(5), seconds(100))),
+            answer: || text(true),
+        },
+        Quiet {
+            name: "may_listen",
+            call: |state| text(state.directory().may_listen(&key::<P>(5), seconds(100))),
             answer: || text(true),
         },
         Quiet {

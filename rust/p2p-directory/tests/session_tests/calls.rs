@@ -14,6 +14,8 @@ tests_of_each_pair! {
     a_block_is_told,
     a_block_ends,
     who_may_be_dialled_or_come_is_told,
+    who_may_listen_is_told,
+    an_address_is_told,
     who_can_be_dialled_is_told,
     a_cooldown_is_forgotten,
 }
@@ -112,6 +114,26 @@ fn who_may_be_dialled_or_come_is_told<P: Exported>() {
     assert_eq!(session.listen(&key::<P>(1), 100, 5, 0, 0), 1);
     assert_eq!(session.eligible(&key::<P>(1), 100, 5), 1);
     assert_eq!(session.acceptable(&key::<P>(1), 100, 5), 0);
+}
+
+fn who_may_listen_is_told<P: Exported>() {
+    let session = tracking::<P>(9, &[1]);
+    assert_eq!(session.may_listen(&key::<P>(1), 100, 5), 1);
+    assert_eq!(session.may_listen(&key::<P>(2), 100, 5), 0);
+    assert_eq!(session.listen(&key::<P>(1), 100, 5, 0, 0), 1);
+    assert_eq!(session.may_listen(&key::<P>(1), 200, 5), 0);
+}
+
+// The own address, that of a peer's newest info, and none.
+fn an_address_is_told<P: Exported>() {
+    let session = tracking::<P>(9, &[1]);
+    assert_eq!(session.ingress(&key::<P>(1), &mut [0; 64]), NONE);
+    assert_eq!(session.ingress(&key::<P>(2), &mut [0; 64]), NONE);
+    assert_eq!(session.update_peers(&infos::<P>(&[(1, 100)])), 1);
+    let held = asked(|room| session.ingress(&key::<P>(1), room));
+    assert_eq!(held, [0, 4, 1, 2, 3, 4, 31, 65]);
+    let own = asked(|room| session.ingress(&key::<P>(9), room));
+    assert_eq!(own.len(), 8);
 }
 
 fn who_can_be_dialled_is_told<P: Exported>() {

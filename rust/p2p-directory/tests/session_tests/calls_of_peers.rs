@@ -11,6 +11,7 @@ use p2p_directory_sys::{
 tests_of_each_pair! {
     a_status_is_told,
     who_may_be_connected_is_told,
+    who_may_listen_is_told,
     a_dial_is_granted,
     an_inbound_peer_is_reserved_and_connected,
     a_peer_is_blocked,
@@ -31,9 +32,10 @@ const BLOCK: u64 = 10;
 const STATUS: u64 = 15;
 const ELIGIBLE: u64 = 23;
 const ACCEPTABLE: u64 = 24;
+const MAY_LISTEN: u64 = 32;
 
 /// The calls of a peer, and how many numbers each takes.
-const CALLS: [(u64, usize); 8] = [
+const CALLS: [(u64, usize); 9] = [
     (DIAL, 4),
     (LISTEN, 4),
     (CONNECT, 1),
@@ -42,6 +44,7 @@ const CALLS: [(u64, usize); 8] = [
     (STATUS, 0),
     (ELIGIBLE, 2),
     (ACCEPTABLE, 2),
+    (MAY_LISTEN, 2),
 ];
 
 const TRACK_ROOM: u64 = 3;
@@ -88,6 +91,20 @@ fn who_may_be_connected_is_told<P: Exported>() {
     // The block ends 60 seconds later.
     let ended = |call| session.call_peer(call, &[100, 6], &key::<P>(3));
     assert_eq!([ended(ELIGIBLE), ended(ACCEPTABLE)], [1, 1]);
+}
+
+// `may_listen` tells what `listen` answers: not of a stranger, nor of whoever is reserved, within its
+// cooldown of ten seconds, or blocked.
+fn who_may_listen_is_told<P: Exported>() {
+    let session = tracking::<P>(9, &[1, 3]);
+    let told = |byte, seconds| session.call_peer(MAY_LISTEN, &[seconds, 5], &key::<P>(byte));
+    assert_eq!([told(1, 100), told(2, 100), told(9, 100)], [1, 0, 0]);
+    assert_eq!(session.listen(&key::<P>(1), 100, 5, 0, 0), 1);
+    assert_eq!(told(1, 200), 0);
+    assert_eq!(session.release(&key::<P>(1)), 1);
+    assert_eq!([told(1, 109), told(1, 110)], [0, 1]);
+    assert_eq!(session.block(&key::<P>(3), 40, 5), 1);
+    assert_eq!([told(3, 99), told(3, 100)], [0, 1]);
 }
 
 // 1 if a reservation is granted, else 0. The dial time is the end of the cooldown, plus the draw.
@@ -159,7 +176,7 @@ fn infos_are_taken<P: Exported>() {
 fn times_are_read_by_call_peer<P: Exported>() {
     let session = tracking::<P>(9, &[1]);
     for nanos in [1_000_000_000, 1 << 32, (1 << 32) + 1, u64::MAX] {
-        for number in [BLOCK, ELIGIBLE, ACCEPTABLE] {
+        for number in [BLOCK, ELIGIBLE, ACCEPTABLE, MAY_LISTEN] {
             let answer = session.call_peer(number, &[100, nanos], &key::<P>(1));
             assert_eq!(answer, BAD_MOMENT, "{number}, {nanos}");
         }

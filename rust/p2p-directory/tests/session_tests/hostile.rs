@@ -113,7 +113,7 @@ fn request<P: Exported>(session: &Session<P>, draws: &mut Draws, out: &mut [u8])
     let key = key.as_ref();
     let wrong = draws.no_key::<P>();
     let nanos = 1_000_000_000 + draws.below(1 << 31) as u32;
-    match draws.below(24) {
+    match draws.below(27) {
         0 => (session.dial(&wrong, 1, 0, 0, 0), BAD_KEY),
         1 => (session.dial(key, 1, nanos, 0, 0), BAD_MOMENT),
         2 => (session.listen(&wrong, 1, 0, 0, 0), BAD_KEY),
@@ -131,6 +131,9 @@ fn request<P: Exported>(session: &Session<P>, draws: &mut Draws, out: &mut [u8])
         14 => (session.eligible(&wrong, 1, 0), BAD_KEY),
         15 => (session.acceptable(key, 1, nanos), BAD_MOMENT),
         16 => (session.dialable(1, nanos, out), BAD_MOMENT),
+        17 => (session.may_listen(&wrong, 1, 0), BAD_KEY),
+        18 => (session.may_listen(key, 1, nanos), BAD_MOMENT),
+        19 => (session.ingress(&wrong, out), BAD_KEY),
         _ => request_with_lists::<P>(session, draws, nanos, out),
     }
 }

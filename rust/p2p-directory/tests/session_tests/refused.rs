@@ -142,6 +142,8 @@ fn answers<P: Exported>(
         ("get_random_bit_vec", session.get_random_bit_vec(0, out)),
         ("eligible", session.eligible(bytes, 0, nanos)),
         ("acceptable", session.acceptable(bytes, 0, nanos)),
+        ("may_listen", session.may_listen(bytes, 0, nanos)),
+        ("ingress", session.ingress(bytes, out)),
         ("dialable", session.dialable(0, nanos, out)),
         ("tracked", session.tracked()),
         ("ask", session.ask(0, out)),

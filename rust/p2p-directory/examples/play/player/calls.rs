@@ -3,7 +3,8 @@
 use super::Named;
 use super::fault::Fault;
 use super::printed::{
-    bit_vec, data, dialable, hexadecimal, info, infos, keys, option, or_none, tracked, update,
+    bit_vec, data, dialable, hexadecimal, info, infos, ingress, keys, option, or_none, tracked,
+    update,
 };
 use super::usage::{Usage, nearest};
 use super::words::Words;
@@ -23,7 +24,7 @@ const ALL: PayloadConfig = PayloadConfig {
     max_data_length: usize::MAX,
 };
 
-const COMMANDS: [Usage; 31] = [
+const COMMANDS: [Usage; 33] = [
     Usage("node", "NAME [KEY=VALUE ..]"),
     Usage("track", "I LIST [/ LIST]"),
     Usage("dial", "P T [DRAW]"),
@@ -42,10 +43,12 @@ const COMMANDS: [Usage; 31] = [
     Usage("all", ""),
     Usage("status", "P"),
     Usage("info", "P"),
+    Usage("ingress", "P"),
     Usage("infos", "I BITS T"),
     Usage("bits", "PLACE"),
     Usage("eligible", "P T"),
     Usage("acceptable", "P T"),
+    Usage("may_listen", "P T"),
     Usage("dialable", "T"),
     Usage("tracked", ""),
     Usage("ask", "PLACE"),
@@ -79,7 +82,7 @@ pub fn parsed<P: Pair>(
         }
         "dial" | "listen" | "connect" | "release" => reservations(name, words),
         "block" | "unblock_expired" | "next_unblock" | "blocked_peers" => blocks(name, words),
-        "update" | "info" | "infos" | "bits" => knowledge(name, words, namespace),
+        "update" | "info" | "ingress" | "infos" | "bits" => knowledge(name, words, namespace),
         "ask" | "receive" => frames(name, words),
         _ => others(name, words),
     }
@@ -193,6 +196,13 @@ fn knowledge<P: Pair>(
                 Ok(or_none(known.map(|known| info(&known))))
             })
         }
+        "ingress" => {
+            let peer = words.peer()?;
+            Box::new(move |named| {
+                let held = named.directory().ingress(&peer)?;
+                Ok(or_none(held.map(|held| ingress(&held))))
+            })
+        }
         "infos" => {
             let (bits, now) = (words.bit_vec()?, words.moment()?);
             Box::new(move |named| {
@@ -255,6 +265,10 @@ fn others<P: Pair>(name: &str, words: &mut Words<'_, P>) -> Result<Call<P>, Faul
         "acceptable" => {
             let (peer, now) = (words.peer()?, words.moment()?);
             Box::new(move |named| Ok(named.directory().acceptable(&peer, now).to_string()))
+        }
+        "may_listen" => {
+            let (peer, now) = (words.peer()?, words.moment()?);
+            Box::new(move |named| Ok(named.directory().may_listen(&peer, now).to_string()))
         }
         "dialable" => {
             let now = words.moment()?;

@@ -6,7 +6,7 @@ use crate::player::printed::{option, or_none};
 use crate::player::{key, signed};
 use p2p_directory::record::{Argument, Call, Log};
 use p2p_directory::sized::{Bytes, Info, Pair, Payload, Setup};
-use p2p_directory::{BitVec, Moment, PayloadConfig};
+use p2p_directory::{BitVec, Ingress, Moment, PayloadConfig};
 use p2p_directory_sys as exports;
 use std::collections::{BTreeMap, BTreeSet};
 use std::time::Duration;
@@ -191,7 +191,7 @@ impl<P: Pair> Script<P> {
         // A buffer that was too short is asked with once more.
         if answer.number != exports::NONE && answer.bytes.len() as u64 != answer.number {
             match name {
-                "status" | "eligible" | "acceptable" | "tracked" => {}
+                "status" | "eligible" | "acceptable" | "may_listen" | "tracked" => {}
                 _ => return Ok(None),
             }
         }
@@ -201,7 +201,7 @@ impl<P: Pair> Script<P> {
                 let state = states.get(usize::try_from(answer.number)?);
                 (format!("status {}", self.peer(fields)?), or_none(state))
             }
-            "eligible" | "acceptable" => {
+            "eligible" | "acceptable" | "may_listen" => {
                 let command = format!("{name} {} {}", self.peer(fields)?, fields.now()?);
                 (command, (answer.number == 1).to_string())
             }
@@ -219,6 +219,11 @@ impl<P: Pair> Script<P> {
                 let known = self.given(fields, |bytes| Info::<P>::decode(bytes).ok());
                 let known = known.flatten().map(|known| info(&self.signed(&known)));
                 (format!("info {}", self.peer(fields)?), or_none(known))
+            }
+            "ingress" => {
+                let held = self.given(fields, |bytes| Ingress::decode(bytes).ok());
+                let held = held.flatten().map(|held| ingress(&held));
+                (format!("ingress {}", self.peer(fields)?), or_none(held))
             }
             "infos" => {
                 let BitVec { index, bits } = fields.bit_vec()?;

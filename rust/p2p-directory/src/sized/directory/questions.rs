@@ -9,6 +9,7 @@ use crate::answer::{Kind, OWN, certain, is_certain, unknown};
 use crate::codec::{ReadError, Reader};
 use crate::data::BitVec;
 use crate::error::OutOfMemory;
+use crate::ingress::Ingress;
 use crate::memory::give_back_large;
 use crate::moment::Moment;
 use crate::status::Status;
@@ -187,6 +188,32 @@ impl<P: Pair> Directory<P> {
         )
     }
 
+    /// The address that is held of the peer, whoever it is and whether or not it may be dialled:
+    /// that of its newest info, else that of the last bootstrapper with its key, and of the local
+    /// node its own. `None` if the peer has no record, or no address is known.
+    ///
+    /// # Errors
+    ///
+    /// [`OutOfMemory`] if an allocation fails.
+    ///
+    /// # Examples
+    ///
+    /// ```
+    /// # use p2p_directory::*;
+    /// # let mut directory = testing::directory();
+    /// assert_eq!(directory.ingress(&testing::key(1))?, None);
+    /// let own = directory.info(&testing::key(9))?.expect("the local info");
+    /// assert_eq!(directory.ingress(&testing::key(9))?, Some(own.ingress));
+    /// # Ok::<(), OutOfMemory>(())
+    /// ```
+    pub fn ingress(&self, peer: &P::Key) -> Result<Option<Ingress>, OutOfMemory> {
+        self.question(
+            Kind::Ingress,
+            |session, out| session.ingress(peer.as_ref(), out),
+            |bytes| Ingress::read(&mut Reader::new(bytes)),
+        )
+    }
+
     /// The infos to send to a peer that sent these bits, at the time `now`.
     ///
     /// They are the infos of those primary peers of the set whose bit is false, in the order of
@@ -293,6 +320,30 @@ impl<P: Pair> Directory<P> {
     pub fn acceptable(&self, peer: &P::Key, now: Moment) -> bool {
         let (seconds, nanos) = now.parts();
         is_certain(self.session().acceptable(peer.as_ref(), seconds, nanos))
+    }
+
+    /// Whether [`Directory::listen`] would grant the peer a reservation at the time `now`, if memory
+    /// suffices: it is acceptable, and its cooldown is over.
+    ///
+    /// # Examples
+    ///
+    /// ```
+    /// # use p2p_directory::*; use std::time::Duration;
+    /// # let mut directory = testing::directory();
+    /// # let (peer, now) = (testing::key(1), Moment::from_secs(1));
+    /// # let _ = directory.track(0, &OrderedSet::from_iter_dedup([peer]).into())?;
+    /// assert!(directory.may_listen(&peer, now));
+    /// // Its cooldown is ten seconds.
+    /// drop(directory.listen(&peer, now, Duration::ZERO)?);
+    /// assert!(!directory.may_listen(&peer, Moment::from_secs(10)));
+    /// assert!(directory.may_listen(&peer, Moment::from_secs(11)));
+    /// # Ok::<(), OutOfMemory>(())
+    /// ```
+    #[must_use]
+    #[inline]
+    pub fn may_listen(&self, peer: &P::Key, now: Moment) -> bool {
+        let (seconds, nanos) = now.parts();
+        is_certain(self.session().may_listen(peer.as_ref(), seconds, nanos))
     }
 
     /// The peers that may be dialled at the time `now`, and when to ask again.
