@@ -4,3 +4,4 @@ pub mod Least
 pub mod Greatest
 pub mod Crowded
 pub mod Fairness
+pub mod Answered

@@ -5,3 +5,4 @@ pub mod Recommended
 pub mod Origins
 pub mod Arrivals
 pub mod Digests
+pub mod Answers

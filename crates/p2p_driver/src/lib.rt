@@ -3,6 +3,7 @@
 //! and `p2p_directory`.
 #![tactic(auto)]
 
+pub mod answers;
 pub mod arrivals;
 mod channels;
 pub mod digest;

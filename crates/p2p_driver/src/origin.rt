@@ -8,7 +8,7 @@ ghost use Rattle.p2p_driver.specs.Origins.{origin_of, counts_whole};
 /// `::ffff:a.b.c.d`, counts whole, and so does one of `64:ff9b::/96`, behind which there is one.
 /// Others count by their first 64 bits: a host has all addresses of such a prefix.
 #[derive(Clone, Copy, Debug, PartialEq, Eq)]
-pub struct Origin(u128);
+pub struct Origin(pub(crate) u128);
 
 impl Origin {
     /// The part of this address that counts. The address is an IPv6 one, its first byte first.

@@ -1,11 +1,12 @@
 //! How often something may happen: a burst at once, and one more for each time that passes.
 
-ghost use Rattle.std.specs.Prelude.{◌≡◌, ◌≤◌, ◌<◌, ◌+◌, ◌-◌, ◌*◌, ◌^◌, ℕ, List, [], ◌∷◌};
+ghost use Rattle.std.specs.Prelude.{◌≡◌, ◌≤◌, ◌<◌, ◌+◌, ◌-◌, ◌*◌, ℕ, List, [], ◌∷◌};
 ghost use Rattle.std.specs.Prelude.{true, false, nat_le};
 ghost use Rattle.std.specs.Duration.{as_nanos};
 ghost use Rattle.std.specs.Int.NonZero.{non_zero_u32_get};
 ghost use Rattle.p2p_driver.specs.Rates.{IsAllowed, AreAllowed, IsKept, count_in};
 
+use std::marker::Model;
 use std::num::NonZeroU32;
 use std::time::Duration;
 
@@ -19,17 +20,29 @@ pub struct Rate {
 }
 
 /// What is kept of all that happened at a rate: the moment, in nanoseconds, at which a burst may
-/// happen again. Its contracts speak of any list of moments of which that is kept.
+/// happen again. A contract sees that moment, and speaks of any list of moments of which it is kept.
 #[derive(Clone, Copy, Debug)]
 pub struct Bucket {
     full_at: u128,
-    ghost small: { full_at < 2 ^ 127 },
+}
+
+impl Model for Bucket {
+    ghost use Rattle.std.specs.Prelude.{ℕ, ◌<◌, ◌^◌};
+
+    ghost Value = { ℕ };
+
+    ghost view = { λ b. b.full_at };
+
+    ghost inverse = { λ n. record { full_at = n } };
+
+    ghost invariant = { λ b. b.full_at < 2 ^ 127 };
 }
 
 impl Bucket {
     /// The bucket of a rate at which nothing has happened.
     pub fn new() -> Self
-        ensures kept { (burst refill now : ℕ) → IsKept burst refill now [] result.full_at }
+        ensures kept { (burst refill now : ℕ) → IsKept burst refill now [] result }
+        ensures full { result ≡ 0 }
     {
         Bucket { full_at: 0 }
     }
@@ -39,14 +52,14 @@ impl Bucket {
     pub fn next(&self, rate: Rate) -> u128
         ensures allowed { let burst = non_zero_u32_get rate.burst in
             let refill = as_nanos rate.refill in
-            (happened : List ℕ) (now : ℕ) → IsKept burst refill now happened self.now.full_at →
+            (happened : List ℕ) (now : ℕ) → IsKept burst refill now happened self.now →
             result ≤ now → IsAllowed burst refill happened now }
         ensures refused { let burst = non_zero_u32_get rate.burst in
             let refill = as_nanos rate.refill in
-            (happened : List ℕ) (now : ℕ) → IsKept burst refill now happened self.now.full_at →
+            (happened : List ℕ) (now : ℕ) → IsKept burst refill now happened self.now →
             now < result → ¬ (IsAllowed burst refill happened now) }
         ensures value { result ≡
-            self.now.full_at - (non_zero_u32_get rate.burst - 1) * as_nanos rate.refill }
+            self.now - (non_zero_u32_get rate.burst - 1) * as_nanos rate.refill }
     {
         let slack = (rate.burst.get() - 1) as u128 * rate.refill.as_nanos();
         self.full_at.saturating_sub(slack)
@@ -58,12 +71,12 @@ impl Bucket {
         ensures taken { let burst = non_zero_u32_get rate.burst in
             let refill = as_nanos rate.refill in
             let t = as_nanos now in
-            result ≡ true → (happened : List ℕ) → IsKept burst refill t happened self.old.full_at →
-            IsAllowed burst refill happened t × IsKept burst refill t (t ∷ happened) self.new.full_at }
+            result ≡ true → (happened : List ℕ) → IsKept burst refill t happened self.old →
+            IsAllowed burst refill happened t × IsKept burst refill t (t ∷ happened) self.new }
         ensures refused { let burst = non_zero_u32_get rate.burst in
             let refill = as_nanos rate.refill in
             let t = as_nanos now in
-            result ≡ false → (happened : List ℕ) → IsKept burst refill t happened self.old.full_at →
+            result ≡ false → (happened : List ℕ) → IsKept burst refill t happened self.old →
             ¬ (IsAllowed burst refill happened t) }
         ensures unchanged { result ≡ false → self.new ≡ self.old }
     {
@@ -80,9 +93,9 @@ impl Bucket {
     /// Whether at the time `now` all that happened counts no more: a new bucket is then as good.
     pub fn is_full(&self, now: Duration) -> bool
         ensures kept { result ≡ true → (burst refill : ℕ) (happened : List ℕ) →
-            IsKept burst refill (as_nanos now) happened self.now.full_at →
+            IsKept burst refill (as_nanos now) happened self.now →
             IsKept burst refill (as_nanos now) happened 0 }
-        ensures full { result ≡ nat_le self.now.full_at (as_nanos now) }
+        ensures full { result ≡ nat_le self.now (as_nanos now) }
     {
         self.full_at <= now.as_nanos()
     }
