@@ -1,5 +1,5 @@
--- The claims of inbound streams that were answered. A claim is the origin of its stream and a moment in
--- nanoseconds; claims are listed the newest first.
+-- The claims of inbound streams that were answered. A claim is the origin of its stream and a
+-- moment in nanoseconds; claims are listed the newest first.
 use Rattle.std.specs.Prelude.{ℕ, nat_le, Bool, if◌then◌else◌, List, [], ◌∷◌, map, unwrap_or}
 use Rattle.std.specs.Duration.{as_nanos}
 use Rattle.std.specs.List.{filter}

@@ -1,5 +1,7 @@
 -- The inbound streams whose key isn't proved yet. Moments and durations are nanoseconds.
-use Rattle.std.specs.Prelude.{ℕ, ◌≡◌, ◌==◌, ◌≤◌, ◌<◌, ◌+◌, ◌-◌, ◌&&◌, ◌||◌, if◌then◌else◌, find, not, nat_le, nat_lt, min, Bool}
+use Rattle.std.specs.Prelude.{ℕ, ◌≡◌, ◌==◌, ◌≤◌, ◌<◌, ◌+◌, ◌-◌, ◌&&◌, ◌||◌, not, nat_le, nat_lt}
+use Rattle.std.specs.Prelude.{min}
+use Rattle.std.specs.Prelude.{Bool, if◌then◌else◌, find}
 use Rattle.std.specs.Prelude.{List, [], ◌∷◌, ◌++◌, length, Option, Some, None, is_some, option_map}
 use Rattle.std.specs.Duration.{as_nanos}
 use Rattle.std.specs.List.{count_by, filter, list_all, slice_get}

@@ -1,5 +1,5 @@
--- The addresses of inbound streams, as they are counted. An address is the number of its 16 bytes, of
--- which the first is worth most.
+-- The addresses of inbound streams, as they are counted. An address is the number of its 16 bytes,
+-- of which the first is worth most.
 use Rattle.std.specs.Prelude.{ℕ, ◌==◌, ◌*◌, ◌/◌, ◌^◌, Bool, ◌||◌, if◌then◌else◌}
 
 -- the address is `::ffff:a.b.c.d` or `64:ff9b::a.b.c.d`

@@ -1,5 +1,6 @@
--- How often something may happen: a burst at once, and one more for each refill that passes. Moments
--- and durations are nanoseconds. What happened is the list of its moments, the newest first.
+-- How often something may happen: a burst at once, and one more for each refill that passes.
+-- Moments and durations are nanoseconds. What happened is the list of its moments, the newest
+-- first.
 use Rattle.std.specs.Prelude.{ℕ, ◌≡◌, ◌+◌, ◌-◌, ◌*◌, ◌≤◌, ◌⊎◌, ◌&&◌, nat_le, max, List, [], ◌∷◌}
 use Rattle.std.specs.Prelude.{Some}
 use Rattle.std.specs.List.{slice_get, count_by}

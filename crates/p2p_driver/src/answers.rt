@@ -1,6 +1,7 @@
 //! At which rate claims of inbound streams are answered.
 
-ghost use Rattle.std.specs.Prelude.{◌≡◌, ◌≤◌, ◌+◌, ◌*◌, ℕ, List, [], ◌∷◌, true, false, Ok, OnErr, OnOk};
+ghost use Rattle.std.specs.Prelude.{◌≡◌, ◌≤◌, ◌+◌, ◌*◌, ℕ, List, [], ◌∷◌, true, false, Ok, OnErr};
+ghost use Rattle.std.specs.Prelude.{OnOk};
 ghost use Rattle.std.specs.Prelude.{if◌then◌else◌, map};
 ghost use Rattle.std.specs.Duration.{as_nanos};
 ghost use Rattle.std.specs.Int.NonZero.{non_zero_u32_get};
@@ -17,8 +18,8 @@ use std::marker::Model;
 use std::time::Duration;
 
 /// What is kept of the claims that were answered: of all of them, and of each origin of which not
-/// all is over. A contract sees the moments that are kept, and speaks of any list of claims, each an
-/// origin with a moment, of which they are kept.
+/// all is over. A contract sees the moments that are kept, and speaks of any list of claims, each
+/// an origin with a moment, of which they are kept.
 #[derive(Drop)]
 pub struct Answers {
     all: Bucket,
@@ -46,8 +47,9 @@ impl Answers {
         }
     }
 
-    /// Answers a claim of a stream of the origin at the steady time `now`, if the rate of all claims
-    /// has one left, and that of the origin. Returns whether it does. What is over is forgotten.
+    /// Answers a claim of a stream of the origin at the steady time `now`, if the rate of all
+    /// claims has one left, and that of the origin. Returns whether it does. What is over is
+    /// forgotten.
     ///
     /// # Errors
     ///

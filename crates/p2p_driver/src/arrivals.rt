@@ -1,16 +1,14 @@
 //! The inbound streams whose key isn't proved yet.
 
-ghost use Rattle.std.specs.Prelude.{◌≡◌, ◌&&◌, ◌||◌, not, find, nat_le, is_some, option_map};
-ghost use Rattle.std.specs.Prelude.{max};
+ghost use Rattle.std.specs.Prelude.{ℕ, ◌≡◌, ◌≤◌, ◌<◌, ◌&&◌, ◌||◌, not, nat_le, max, List, []};
+ghost use Rattle.std.specs.Prelude.{find, length, is_some, option_map, IfOk, OnErr};
+ghost use Rattle.std.specs.Prelude.{vec_len, vec_capacity};
 ghost use Rattle.std.specs.Duration.{as_nanos};
 ghost use Rattle.std.specs.List.{count_by, filter};
-ghost use Rattle.p2p_driver.specs.Arrivals.{is_of, is_older, has_number, has_most, is_crowded};
-ghost use Rattle.p2p_driver.specs.Arrivals.{count_older, crowded_of, deadline_of, IsLeastDeadline};
-ghost use Rattle.std.specs.Prelude.{IfOk, OnErr, [], ◌≤◌, vec_len, vec_capacity};
-ghost use Rattle.std.specs.List.{filter};
-ghost use Rattle.p2p_driver.specs.Arrivals.{lesser_of, gives_way, arrival_of, room_of, arrived};
+ghost use Rattle.p2p_driver.specs.Arrivals.{has_number, is_of, is_older, deadline_of, lesser_of};
+ghost use Rattle.p2p_driver.specs.Arrivals.{IsLeastDeadline, count_older, has_most, crowded_of};
+ghost use Rattle.p2p_driver.specs.Arrivals.{gives_way, arrival_of, room_of, arrived};
 ghost use Rattle.p2p_driver.specs.Arrivals.{Gives, AreYoung};
-ghost use Rattle.std.specs.Prelude.{ℕ, List, ◌<◌, length};
 
 use crate::origin::Origin;
 use crate::pace::Pace;
@@ -85,9 +83,9 @@ impl<K: Copy> Arrivals<K> {
     /// gives way to it, if one does: that one is no longer kept.
     ///
     /// There is no room if the origin has `by_address` streams. If all `arrivals` are taken, of the
-    /// streams that came longer ago than `grace` one gives way, of an origin that has most of these:
-    /// first one that hasn't claimed, and of these the oldest. If all came within `grace`, there is
-    /// no room. Nothing changes then.
+    /// streams that came longer ago than `grace` one gives way, of an origin that has most of
+    /// these: first one that hasn't claimed, and of these the oldest. If all came within `grace`,
+    /// there is no room. Nothing changes then.
     ///
     /// # Errors
     ///
@@ -103,7 +101,8 @@ impl<K: Copy> Arrivals<K> {
         pace: &Pace,
         now: Duration,
     ) -> Result<Room, AllocError>
-        ensures room { IfOk result (λ room. room ≡ room_of pace.now (as_nanos now) self.old origin) }
+        ensures room { IfOk result (λ room.
+            room ≡ room_of pace.now (as_nanos now) self.old origin) }
         ensures taken { IfOk result (λ room. self.new
             ≡ arrived (arrival_of number origin now) room self.old) }
         ensures err { OnErr result (self.new ≡ self.old) }
@@ -122,9 +121,9 @@ impl<K: Copy> Arrivals<K> {
         Ok(room)
     }
 
-    /// The number of the first stream that is late at the steady time `now`, if one is: one that has
-    /// claimed is `handshake` after it came, another is `first` or `handshake` after it, whichever is
-    /// sooner.
+    /// The number of the first stream that is late at the steady time `now`, if one is: one that
+    /// has claimed is `handshake` after it came, another is `first` or `handshake` after it,
+    /// whichever is sooner.
     ///
     /// # Cost
     ///
@@ -137,7 +136,8 @@ impl<K: Copy> Arrivals<K> {
         late(&self.streams, pace.first, pace.handshake, now)
     }
 
-    /// The first moment, in nanoseconds, at which a stream is late, or `None` if there is no stream.
+    /// The first moment, in nanoseconds, at which a stream is late, or `None` if there is no
+    /// stream.
     ///
     /// # Cost
     ///
@@ -359,7 +359,8 @@ fn gives_way<K: Copy>(
 /// - There are at most `arrivals` streams, if there were before.
 /// - There are at most `by_address` streams of each origin, if there were before.
 pub fn streams_have_room<K: Copy>()
-    ensures spared { (pace : Pace) (now : ℕ) (arrivals : List (Arrival K)) (origin : Origin) (n : ℕ) →
+    ensures spared { (pace : Pace) (now : ℕ) (arrivals : List (Arrival K)) (origin : Origin)
+        (n : ℕ) →
         room_of pace now arrivals origin ≡ Room.Of n → Gives (as_nanos pace.grace) now arrivals n }
     ensures let_in { (pace : Pace) (now : ℕ) (arrivals : List (Arrival K)) (origin : Origin) →
         room_of pace now arrivals origin ≡ Room.None →

@@ -91,8 +91,8 @@ pub enum Setting {
     First,
     /// Above 0, and at most a quarter of the cooldown of a peer's connections.
     Handshake,
-    /// One more is at most `max_peers` of the limits, and at most `peer_gossip_max_count`: a reply has
-    /// infos of connected peers and the own one, so none has to be cut.
+    /// One more is at most `max_peers` of the limits, and at most `peer_gossip_max_count`: a reply
+    /// has infos of connected peers and the own one, so none has to be cut.
     Links,
     /// At most `links`.
     Inbound,
@@ -162,8 +162,8 @@ pub struct Limits {
 }
 
 impl Pace {
-    /// The first setting, in the order of [`Setting`], whose condition isn't met under these limits of
-    /// a node, or `None` if all are. It doesn't allocate.
+    /// The first setting, in the order of [`Setting`], whose condition isn't met under these limits
+    /// of a node, or `None` if all are. It doesn't allocate.
     ///
     /// # Cost
     ///

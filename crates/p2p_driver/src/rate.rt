@@ -20,7 +20,8 @@ pub struct Rate {
 }
 
 /// What is kept of all that happened at a rate: the moment, in nanoseconds, at which a burst may
-/// happen again. A contract sees that moment, and speaks of any list of moments of which it is kept.
+/// happen again. A contract sees that moment, and speaks of any list of moments of which it is
+/// kept.
 #[derive(Clone, Copy, Debug)]
 pub struct Bucket {
     full_at: u128,
@@ -47,8 +48,8 @@ impl Bucket {
         Bucket { full_at: 0 }
     }
 
-    /// The first moment, in nanoseconds, from which one more may happen at the rate at which all has
-    /// happened: at each moment that is no earlier it may, and at no other one.
+    /// The first moment, in nanoseconds, from which one more may happen at the rate at which all
+    /// has happened: at each moment that is no earlier it may, and at no other one.
     pub fn next(&self, rate: Rate) -> u128
         ensures allowed { let burst = non_zero_u32_get rate.burst in
             let refill = as_nanos rate.refill in
@@ -104,6 +105,7 @@ impl Bucket {
 /// By a law of rates, if each was allowed when it happened, no more happened in a window of time
 /// than a burst, and one more for each refill of the window's length.
 pub fn at_most()
-    ensures { (burst refill : ℕ) (happened : List ℕ) → 1 ≤ burst → AreAllowed burst refill happened →
+    ensures { (burst refill : ℕ) (happened : List ℕ) → 1 ≤ burst →
+        AreAllowed burst refill happened →
         (from size : ℕ) → count_in from size happened * refill ≤ burst * refill + size }
 {}

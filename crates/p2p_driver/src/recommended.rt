@@ -25,16 +25,16 @@ pub struct Recommended {
     pub peer_gossip_max_count: usize,
 }
 
-impl Recommended {
+impl Pace {
     /// Settings for a network in which all retained sets and the bootstrappers have at most
     /// `largest_set` peers, with this minimum time between two reservations of one peer.
     ///
     /// The number of peers is rounded up to a power of two, so that nodes that count a few more or
     /// less have the same limits, and is at most 2^31. Up to 256 peers each may have a link, and no
     /// link gives way. Above that there are 64 links, 48 of each direction, and a link may give way
-    /// after ten ticks. A message has at most 1 MiB, and there is no channel. The settings meet their
-    /// conditions if the cooldown is at least 4 ns.
-    pub fn new(alloc: Global, largest_set: usize, cooldown: Duration) -> Recommended
+    /// after ten ticks. A message has at most 1 MiB, and there is no channel. The settings meet
+    /// their conditions if the cooldown is at least 4 ns.
+    pub fn recommended(alloc: Global, largest_set: usize, cooldown: Duration) -> Recommended
         ensures recommended { (n : ℕ) × IsNextPowerOfTwo (min largest_set (2 ^ 31)) n
             × IsRecommended n (as_nanos cooldown) result }
         ensures met { 4 ≤ as_nanos cooldown → AreMet (limits_of cooldown result) result.pace }

@@ -3,7 +3,6 @@
 use p2p_driver::answers::Answers;
 use p2p_driver::origin::Origin;
 use p2p_driver::pace::Pace;
-use p2p_driver::recommended::Recommended;
 use std::alloc::{AllocError, Global};
 use std::process::Abort;
 use std::test::Fail;
@@ -35,7 +34,7 @@ fn answered(
 // How many claims of address 1 are answered at once, and then of others, one each; of another 10 ms
 // later; of address 1 then, since it waits longer, 39 ms after its own, and 40 ms after.
 fn counts(alloc: Global) -> Result<[u8; 5], AllocError> {
-    let pace = Recommended::new(alloc, 64, Duration::from_secs(60)).pace;
+    let pace = Pace::recommended(alloc, 64, Duration::from_secs(60)).pace;
     let mut answers = Answers::new(alloc);
     Ok([
         answered(&mut answers, &pace, 1, true, 1_000)?,

@@ -3,7 +3,6 @@
 use p2p_driver::arrivals::{Arrivals, Room};
 use p2p_driver::origin::Origin;
 use p2p_driver::pace::Pace;
-use p2p_driver::recommended::Recommended;
 use std::alloc::{AllocError, Global};
 use std::process::Abort;
 use std::test::Fail;
@@ -29,7 +28,7 @@ fn a_prefix_of_64_bits_counts_as_one_address(rt: HostRuntime) {
 }
 
 fn pace(alloc: Global) -> Pace {
-    Recommended::new(alloc, 64, Duration::from_secs(60)).pace
+    Pace::recommended(alloc, 64, Duration::from_secs(60)).pace
 }
 
 // Lets streams of an origin come at this time, so many, with these numbers, and returns how many
@@ -52,8 +51,8 @@ fn come(
 }
 
 // 80 idle streams of one address and 80 of another, of which 32 each have room. A newcomer has none
-// while all came within 500 ms. Then the oldest of the first gives way, and then that of the second,
-// of which more are left.
+// while all came within 500 ms. Then the oldest of the first gives way, and then that of the
+// second, of which more are left.
 fn flooded(alloc: Global) -> Result<([usize; 2], [Room; 3]), AllocError> {
     let pace = pace(alloc);
     let mut arrivals = Arrivals::new(alloc);

@@ -10,9 +10,10 @@ use std::process::Abort;
 use std::test::Fail;
 use std::time::Duration;
 
-// What is tested of the settings for so many peers: links, inbound, outbound, dials, and the limits.
+// What is tested of the settings for so many peers: links, inbound, outbound, dials, and the
+// limits.
 fn sizes(alloc: Global, largest_set: usize) -> [usize; 7] {
-    let recommended = Recommended::new(alloc, largest_set, Duration::from_secs(60));
+    let recommended = Pace::recommended(alloc, largest_set, Duration::from_secs(60));
     let Recommended {
         pace,
         payload,
@@ -41,7 +42,7 @@ fn up_to_256_peers_each_may_have_a_link(rt: HostRuntime) {
 
 // The handshake and the life of a link, in milliseconds, of the tested settings.
 fn times(alloc: Global, largest_set: usize, cooldown: u64) -> (u128, Option<u128>) {
-    let pace = Recommended::new(alloc, largest_set, Duration::from_secs(cooldown)).pace;
+    let pace = Pace::recommended(alloc, largest_set, Duration::from_secs(cooldown)).pace;
     let life = pace.life.map(|life| life.as_millis());
     (pace.handshake.as_millis(), life)
 }
@@ -70,7 +71,7 @@ fn limits() -> Limits {
 fn fault<Change: FnOnce(&mut Pace)>(alloc: Global, change: Change) -> Option<Setting>
     requires { Change.IsAlwaysCallable change }
 {
-    let mut pace = Recommended::new(alloc, 8, Duration::from_secs(60)).pace;
+    let mut pace = Pace::recommended(alloc, 8, Duration::from_secs(60)).pace;
     change(&mut pace);
     pace.fault(&limits())
 }
@@ -136,7 +137,7 @@ fn channel(number: u64, longest: u32, burst: u32, refill: u64) -> Channel {
 
 // What is at fault in settings for eight peers with these channels.
 fn fault_with(alloc: Global, channels: &[Channel]) -> Result<Option<Setting>, AllocError> {
-    let mut pace = Recommended::new(alloc, 8, Duration::from_secs(60)).pace;
+    let mut pace = Pace::recommended(alloc, 8, Duration::from_secs(60)).pace;
     for channel in channels {
         pace.channels.push(*channel)?;
     }
@@ -163,7 +164,7 @@ fn channels_have_their_conditions(rt: HostRuntime) -> Result<(), Fail> {
 // The digests of settings for eight peers, and of these with a channel, worked out from the words:
 // 8, 9, 1000, 9, 30, 0, 120, 0, then 0, or 1 and 7, 100, 3, 1, 500000000.
 fn digests(alloc: Global) -> Result<[u64; 2], AllocError> {
-    let mut pace = Recommended::new(alloc, 8, Duration::from_secs(60)).pace;
+    let mut pace = Pace::recommended(alloc, 8, Duration::from_secs(60)).pace;
     let none = pace.digest(&limits());
     let mut channel = channel(7, 100, 3, 0);
     channel.refill = Duration::from_millis(1_500);

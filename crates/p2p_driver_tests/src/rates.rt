@@ -39,8 +39,8 @@ fn a_burst_is_taken_and_one_more_for_each_refill(rt: HostRuntime) {
     assert!(rt; counts() == [4, 0, 1, 2, 4]);
 }
 
-// When the next may be taken, in nanoseconds, and whether the bucket is full: of a new one, once one
-// was taken at 1 s, once four were, and 40 ms later.
+// When the next may be taken, in nanoseconds, and whether the bucket is full: of a new one, once
+// one was taken at 1 s, once four were, and 40 ms later.
 fn nexts() -> [(u128, bool); 4] {
     let mut bucket = Bucket::new();
     let (now, later) = (Duration::from_secs(1), Duration::from_millis(1_040));
