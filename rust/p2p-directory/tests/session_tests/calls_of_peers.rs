@@ -254,7 +254,7 @@ fn what_is_no_call_changes_nothing_by_call_peer<P: Exported>() {
         refused(CONNECT, &[dialer], &key::<P>(1));
     }
     let widened = CALLS.map(|(number, _)| [number + (1 << 8), number + (1 << 32)]);
-    for number in [0, 32, 255, u64::MAX].into_iter().chain(widened.concat()) {
+    for number in [0, 34, 255, u64::MAX].into_iter().chain(widened.concat()) {
         for count in 0..=16 {
             refused(number, &[1; 16][..count], &key::<P>(1));
         }
