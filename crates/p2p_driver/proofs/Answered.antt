@@ -3,26 +3,26 @@ use Rattle.std.proofs.Common.{◌≡◌, ◌≤◌, ℕ, Bool, true, false, cond
 use Rattle.std.proofs.Common.{Option, Some, None, refl, sym, ◌∙◌, ap, subst, arith, zero, suc}
 use Rattle.std.specs.Prelude.{unwrap_or, if◌then◌else◌}
 use Rattle.std.specs.Duration.{as_nanos}
-use Rattle.std.specs.List.{filter}
-use Rattle.std.specs.List.Sorted.{IsStrictlySortedBy}
+use Rattle.std.specs.List.{filter, list_any, IsDistinct}
 use Rattle.std.specs.Map.{lookup, keys_of}
-use Rattle.std.specs.BTreeMap.{is_at}
-use Rattle.std.specs.Ordering.{nat_cmp}
-use Rattle.std.specs.Cmp.{eq_by_cmp_equiv}
 use Rattle.std.specs.Int.NonZero.{non_zero_u32_get}
-use Rattle.std.proofs.Common.{inl, inr, is_eq, Less, Greater}
+use Rattle.std.proofs.Common.{inl, ◌++◌, ◌||◌, find}
+use Rattle.std.specs.Prelude.{option_map}
 use Rattle.std.proofs.Math.Dec.{leb-zero}
-use Rattle.std.specs.Cmp.{nat_cmp_is}
-use Rattle.std.proofs.lemmas.Bool.{leb-true, cases_lt}
-use Rattle.std.proofs.lemmas.Cmp.{nat_cmp_total}
-use Rattle.std.proofs.lemmas.Map.Entries.{option_filter, lookup-filter-values}
-use Rattle.std.proofs.lemmas.Map.Keys.{IsDistinct-from_sorted}
+use Rattle.std.proofs.lemmas.Bool.{leb-true}
+use Rattle.std.proofs.lemmas.Bool.Decides.{nat_tests}
+use Rattle.std.proofs.lemmas.Cmp.{nat_eq_equiv}
+use Rattle.std.proofs.lemmas.List.{map-append}
+use Rattle.std.proofs.lemmas.Map.Entries.{option_filter, lookup-filter-values, lookup-filter-keys}
+use Rattle.std.proofs.lemmas.Map.Made.{IsDistinct-keys_filter}
+use Rattle.std.proofs.lemmas.Map.Keys.{IsDistinct-push}
 use Rattle.p2p_driver.specs.declared.pace.Pace.{Pace}
 use Rattle.p2p_driver.specs.Rates.{AreAllowed, AreBefore, IsKept, IsAllowed}
 use Rattle.p2p_driver.specs.Answers.{AnswersView, AreKept, AreAnswered, kept_of, left_of, times_of, is_origin}
-use Rattle.p2p_driver.proofs.Kept.{forgotten}
+use Rattle.p2p_driver.specs.Answers.{AreDistinct}
+use Rattle.p2p_driver.proofs.Kept.{forgotten, kept_later}
 
--- what is left of a moment, by what a map's look-up gives
+-- what is left of a moment, by what a look-up gives
 left : (now : ℕ) (o : Option ℕ) →
     unwrap_or (option_filter (λ m. not (nat_le m now)) o) 0 ≡ left_of now (unwrap_or o 0)
 left now None = sym (ap (λ b. if b then 0 else 0) (leb-zero now))
@@ -32,12 +32,35 @@ left now (Some m) = go (nat_le m now)
     go true = refl
     go false = refl
 
-pub kept_filtered : (now : ℕ) (es : List (ℕ × ℕ)) → IsStrictlySortedBy nat_cmp (keys_of es) → (o : ℕ) →
+pub kept_filtered : (now : ℕ) (es : List (ℕ × ℕ)) → AreDistinct es → (o : ℕ) →
     kept_of (filter (λ e. not (nat_le e.1 now)) es) o ≡ left_of now (kept_of es o)
-kept_filtered now es sorted o =
-    ap (λ found. unwrap_or found 0) (lookup-filter-values (eq_by_cmp_equiv nat_cmp_total)
-    (λ m. not (nat_le m now)) o es (IsDistinct-from_sorted nat_cmp (keys_of es) sorted))
-    ∙ left now (lookup (is_at (nat_cmp o)) es)
+kept_filtered now es distinct o =
+    ap (λ found. unwrap_or found 0) (lookup-filter-values nat_eq_equiv
+    (λ m. not (nat_le m now)) o es distinct)
+    ∙ left now (lookup (is_origin o) es)
+
+-- no origin stands twice: among none ..
+pub none_distinct : AreDistinct []
+unfolding IsDistinct
+none_distinct = tt
+
+-- .. and among some of those of which none does
+pub distinct_filtered : (p : ℕ × ℕ → Bool) (es : List (ℕ × ℕ)) → AreDistinct es →
+    AreDistinct (filter p es)
+distinct_filtered p es distinct = IsDistinct-keys_filter is_origin p es distinct
+
+-- the first that is found is the one that a look-up gives
+pub found_lookup : (o : ℕ) (es : List (ℕ × ℕ)) →
+    option_map (λ e. e.1) (find (λ e. is_origin o e.0) es) ≡ lookup (is_origin o) es
+found_lookup o [] = refl
+found_lookup o (e ∷ es) = go (is_origin o e.0) (found_lookup o es)
+  where
+    go : (b : Bool) →
+        option_map (λ e. e.1) (find (λ e. is_origin o e.0) es) ≡ lookup (is_origin o) es →
+        option_map (λ e. e.1) (cond b (Some e) (find (λ e. is_origin o e.0) es))
+        ≡ cond b (Some e.1) (lookup (is_origin o) es)
+    go true rest = refl
+    go false rest = rest
 
 -- what is forgotten once it is over is kept all the same
 pub kept_left : (burst refill now : ℕ) (h : List ℕ) (kept : ℕ) → IsKept burst refill now h kept →
@@ -58,15 +81,69 @@ none_kept burst refill now = record {
 
 -- the same origin
 same : (origin o : ℕ) → is_origin origin o ≡ true → origin ≡ o
-same origin o is = elim (cases_lt origin o) [
-  | inl less ↦ absurd (let e = sym (ap is_eq (nat_cmp_is origin o Less less)) in
-      let f = sym is ∙ e in cc)
-  | inr more ↦ elim (cases_lt o origin) [
-    | inl less ↦ absurd (let e = sym (ap is_eq (nat_cmp_is origin o Greater less)) in
-        let f = sym is ∙ e in cc)
-    | inr less ↦ omega (arith, less, more)
-  ]
-]
+same origin o is = grind (arith, nat_tests)
+
+-- ONE MORE ORIGIN
+-- what is found once one more stands last
+abbrev or_last : Option ℕ → Bool → ℕ → Option ℕ
+or_last None b kept = cond b (Some kept) None
+or_last (Some m) b kept = Some m
+
+lookup_push : (test : ℕ → Bool) (es : List (ℕ × ℕ)) (o kept : ℕ) →
+    lookup test (es ++ (o, kept) ∷ []) ≡ or_last (lookup test es) (test o) kept
+lookup_push test [] o kept = refl
+lookup_push test (e ∷ es) o kept = go (test e.0) (lookup_push test es o kept)
+  where
+    go : (b : Bool) →
+        lookup test (es ++ (o, kept) ∷ []) ≡ or_last (lookup test es) (test o) kept →
+        cond b (Some e.1) (lookup test (es ++ (o, kept) ∷ []))
+        ≡ or_last (cond b (Some e.1) (lookup test es)) (test o) kept
+    go true rest = refl
+    go false rest = rest
+
+-- .. of which none is left
+none_left : (o : ℕ) (es : List (ℕ × ℕ)) →
+    list_any (is_origin o) (keys_of (filter (λ e. not (is_origin o e.0)) es)) ≡ false
+none_left o [] = refl
+none_left o (e ∷ es) = go (is_origin o e.0) refl (none_left o es)
+  where
+    rest : List (ℕ × ℕ)
+    rest = filter (λ e. not (is_origin o e.0)) es
+
+    go : (b : Bool) → is_origin o e.0 ≡ b → list_any (is_origin o) (keys_of rest) ≡ false →
+        list_any (is_origin o) (keys_of (cond (not b) (e ∷ rest) rest)) ≡ false
+    go true is none = none
+    go false is none = ap (λ b. b || list_any (is_origin o) (keys_of rest)) is ∙ none
+
+pub distinct_put : (origin kept : ℕ) (es : List (ℕ × ℕ)) → AreDistinct es →
+    AreDistinct (filter (λ e. not (is_origin origin e.0)) es ++ (origin, kept) ∷ [])
+distinct_put origin kept es distinct =
+    let rest = filter (λ e. not (is_origin origin e.0)) es in
+    subst (λ keys. IsDistinct is_origin keys) (sym (map-append (λ e. e.0) rest ((origin, kept) ∷ [])))
+    (IsDistinct-push nat_eq_equiv (keys_of rest) origin
+    (distinct_filtered (λ e. not (is_origin origin e.0)) es distinct) (none_left origin es))
+
+pub kept_put : (origin kept : ℕ) (es : List (ℕ × ℕ)) (o : ℕ) →
+    kept_of (filter (λ e. not (is_origin origin e.0)) es ++ (origin, kept) ∷ []) o
+    ≡ (if is_origin origin o then kept else kept_of es o)
+kept_put origin kept es o = ap (λ found. unwrap_or found 0)
+    (lookup_push (is_origin o) (filter (λ e. not (is_origin origin e.0)) es) origin kept
+    ∙ ap (λ found. or_last found (is_origin o origin) kept) (lookup-filter-keys (is_origin o)
+    (λ k. not (is_origin origin k)) (not (is_origin origin o)) others es))
+    ∙ ap (λ b. unwrap_or (or_last (cond (not (is_origin origin o)) (lookup (is_origin o) es) None) b kept) 0)
+    (nat_eq_equiv.symm o origin)
+    ∙ go (is_origin origin o) (lookup (is_origin o) es)
+  where
+    others : (k : ℕ) → is_origin o k ≡ true →
+        not (is_origin origin k) ≡ not (is_origin origin o)
+    others k is = ap (λ k. not (is_origin origin k)) (sym (same o k is))
+
+    go : (b : Bool) (found : Option ℕ) →
+        unwrap_or (or_last (cond (not b) found None) b kept) 0
+        ≡ (if b then kept else unwrap_or found 0)
+    go true found = refl
+    go false None = refl
+    go false (Some m) = refl
 
 both : (burst refill now : ℕ) (xs ys : List ℕ) (k l : ℕ) → xs ≡ ys → k ≡ l →
     IsKept burst refill now ys l → IsKept burst refill now xs k
@@ -76,14 +153,27 @@ both burst refill now xs ys k l is_xs is_k kept =
 
 module _ (pace : Pace) (now : ℕ) (claims : List (ℕ × ℕ)) where
   -- the buckets that are full may be forgotten
-  pub kept_on : (v : AnswersView) (es : List (ℕ × ℕ)) → AreKept pace now claims v →
+  pub kept_on : (v : AnswersView) (es : List (ℕ × ℕ)) (room : ℕ) → AreKept pace now claims v →
       ((o : ℕ) → kept_of es o ≡ left_of now (kept_of v.of_origins o)) →
-      AreKept pace now claims (record { all = v.all; of_origins = es })
-  kept_on v es kept forgot = record {
+      AreKept pace now claims (record { all = v.all; of_origins = es; room = room })
+  kept_on v es room kept forgot = record {
     all = kept.all;
     each = λ o. subst (IsKept _ _ now (times_of o claims)) (sym (forgot o))
         (kept_left _ _ now (times_of o claims) (kept_of v.of_origins o) (kept.each o));
   }
+
+  -- what is kept at a moment is kept later
+  pub kept_at_later : (v : AnswersView) (later : ℕ) → AreKept pace now claims v → now ≤ later →
+      AreKept pace later claims v
+  kept_at_later v later kept after = record {
+    all = kept_later _ _ _ v.all now later kept.all after;
+    each = λ o. kept_later _ _ _ (kept_of v.of_origins o) now later (kept.each o) after;
+  }
+
+  -- .. whatever room is promised
+  pub kept_in_room : (v : AnswersView) (room : ℕ) → AreKept pace now claims v →
+      AreKept pace now claims (record { all = v.all; of_origins = v.of_origins; room = room })
+  kept_in_room v room kept = record { all = kept.all; each = kept.each }
 
 -- one more claim of an origin is kept of each origin
 module _ (burst refill now origin bucket : ℕ) (claims : List (ℕ × ℕ)) (es es2 : List (ℕ × ℕ)) where
@@ -107,7 +197,7 @@ module _ (burst refill now origin bucket : ℕ) (claims : List (ℕ × ℕ)) (es
 
 -- .. and of all
 pub kept_more : (pace : Pace) (now : ℕ) (claims : List (ℕ × ℕ)) (origin : ℕ) (all bucket : ℕ)
-    (es es2 : List (ℕ × ℕ)) →
+    (es es2 : List (ℕ × ℕ)) (room : ℕ) →
     IsKept (non_zero_u32_get pace.answers.burst) (as_nanos pace.answers.refill) now
     (now ∷ map (λ c. c.1) claims) all →
     IsKept (non_zero_u32_get pace.answers_of_address.burst)
@@ -115,8 +205,8 @@ pub kept_more : (pace : Pace) (now : ℕ) (claims : List (ℕ × ℕ)) (origin :
     ((o : ℕ) → IsKept (non_zero_u32_get pace.answers_of_address.burst)
     (as_nanos pace.answers_of_address.refill) now (times_of o claims) (kept_of es o)) →
     ((o : ℕ) → kept_of es2 o ≡ (if is_origin origin o then bucket else kept_of es o)) →
-    AreKept pace now ((origin, now) ∷ claims) (record { all = all; of_origins = es2 })
-kept_more pace now claims origin all bucket es es2 kept_all kept_bucket kept_each put = record {
+    AreKept pace now ((origin, now) ∷ claims) (record { all = all; of_origins = es2; room = room })
+kept_more pace now claims origin all bucket es es2 room kept_all kept_bucket kept_each put = record {
   all = kept_all;
   each = λ o. each_by (non_zero_u32_get pace.answers_of_address.burst)
       (as_nanos pace.answers_of_address.refill) now origin bucket claims es es2 o

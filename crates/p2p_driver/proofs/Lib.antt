@@ -5,3 +5,23 @@ pub mod Greatest
 pub mod Crowded
 pub mod Fairness
 pub mod Answered
+pub mod Linked
+pub mod Due
+mod Shutting
+mod Fewer
+mod Called
+mod StreamHistory
+mod LinkHistory
+mod Unused
+mod Standing
+mod Driving
+mod DrivingSets
+mod DrivingTimers
+mod Busy
+mod InTime
+mod Taken
+mod Closed
+mod Budget
+mod Numbers
+mod DrivingLinks
+mod Claims

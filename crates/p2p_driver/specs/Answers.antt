@@ -1,28 +1,39 @@
 -- The claims of inbound streams that were answered. A claim is the origin of its stream and a
 -- moment in nanoseconds; claims are listed the newest first.
-use Rattle.std.specs.Prelude.{ℕ, nat_le, Bool, if◌then◌else◌, List, [], ◌∷◌, map, unwrap_or}
+use Rattle.std.specs.Prelude.{ℕ, nat_le, ◌≡◌, ◌==◌, Bool, true, false, if◌then◌else◌}
+use Rattle.std.specs.Prelude.{List, [], ◌∷◌, map, unwrap_or}
 use Rattle.std.specs.Duration.{as_nanos}
-use Rattle.std.specs.List.{filter}
-use Rattle.std.specs.BTreeMap.{is_at}
-use Rattle.std.specs.Ordering.{nat_cmp}
-use Rattle.std.specs.Map.{lookup}
+use Rattle.std.specs.List.{filter, IsDistinct}
+use Rattle.std.specs.Map.{lookup, keys_of}
 use Rattle.std.specs.Int.NonZero.{non_zero_u32_get}
+use Rattle.p2p_driver.specs.declared.actions.Why.{Why}
+use Rattle.p2p_driver.specs.declared.actions.Why.TheVariants as why
 use Rattle.p2p_driver.specs.declared.pace.Pace.{Pace}
 use Rattle.p2p_driver.specs.declared.rate.Rate.{Rate}
 use Rattle.p2p_driver.specs.Rates.{IsAllowed, AreBefore, IsKept}
 
--- the moments that are kept: of all claims, and of each origin
+-- the moments that are kept, of all claims and of each origin, and for how many claims room is
+-- promised
 pub record AnswersView : Type 0 where
   pub all : ℕ
   pub of_origins : List (ℕ × ℕ)
+  pub room : ℕ
+
+-- .. but the room
+abbrev pub roomless : AnswersView → AnswersView
+roomless v = record v { room = 0 }
 
 -- two origins are the same
 abbrev pub is_origin : ℕ → ℕ → Bool
-is_origin o q = is_at (nat_cmp o) q
+is_origin o q = o == q
 
 -- the moment that is kept of an origin, or 0
 abbrev pub kept_of : List (ℕ × ℕ) → ℕ → ℕ
 kept_of of_origins o = unwrap_or (lookup (is_origin o) of_origins) 0
+
+-- no origin stands twice
+abbrev pub AreDistinct : List (ℕ × ℕ) → Type 0
+AreDistinct of_origins = IsDistinct is_origin (keys_of of_origins)
 
 -- what is left of a moment that is kept: nothing, once it is over
 abbrev pub left_of : ℕ → ℕ → ℕ
@@ -59,3 +70,10 @@ module _ (pace : Pace) where
   AreAnswered [] = Unit {0}
   AreAnswered (c ∷ claims) = MayAnswer c.1 c.0 claims
       × AreBefore c.1 (map (λ c. c.1) claims) × AreAnswered claims
+
+  -- why a claim of the origin isn't answered, by whether its peer may come in: that one may not, or
+  -- too many were answered
+  abbrev pub IsClaimRefusal : ℕ → ℕ → List (ℕ × ℕ) → Bool → Why → Type 0
+  IsClaimRefusal now o claims may why.NotGranted = may ≡ false
+  IsClaimRefusal now o claims may why.Crowded = (may ≡ true) × (MayAnswer now o claims → ⊥)
+  IsClaimRefusal now o claims may _ = ⊥

@@ -1,7 +1,7 @@
 -- The inbound streams whose key isn't proved yet. Moments and durations are nanoseconds.
 use Rattle.std.specs.Prelude.{ℕ, ◌≡◌, ◌==◌, ◌≤◌, ◌<◌, ◌+◌, ◌-◌, ◌&&◌, ◌||◌, not, nat_le, nat_lt}
 use Rattle.std.specs.Prelude.{min}
-use Rattle.std.specs.Prelude.{Bool, if◌then◌else◌, find}
+use Rattle.std.specs.Prelude.{Bool, if◌then◌else◌, find, map}
 use Rattle.std.specs.Prelude.{List, [], ◌∷◌, ◌++◌, length, Option, Some, None, is_some, option_map}
 use Rattle.std.specs.Duration.{as_nanos}
 use Rattle.std.specs.List.{count_by, filter, list_all, slice_get}
@@ -31,6 +31,10 @@ module _ {K : Type 0} where
   -- the stream has the number
   abbrev pub has_number : ℕ → Arrival K → Bool
   has_number number a = a.number == number
+
+  -- it hasn't said whose it is
+  abbrev pub is_unclaimed : Arrival K → Bool
+  is_unclaimed a = not (is_some a.claim)
 
   -- it is counted by the origin
   abbrev pub is_of : Origin → Arrival K → Bool
@@ -101,6 +105,14 @@ module _ {K : Type 0} where
   arrived new room.Free arrivals = arrivals ++ new ∷ []
   arrived new (room.Of number) arrivals =
       filter (λ a. not (has_number number a)) arrivals ++ new ∷ []
+
+  -- a stream that has claimed to be the peer's if it has the number
+  abbrev pub with_claim : ℕ → K → Arrival K → Arrival K
+  with_claim number peer a = if has_number number a then record a { claim = Some peer } else a
+
+  -- the streams once the one with the number, if there is one, has claimed to be the peer's
+  abbrev pub claimed : ℕ → K → List (Arrival K) → List (Arrival K)
+  claimed number peer arrivals = map (with_claim number peer) arrivals
 
 -- LAWS
 module _ {K : Type 0} (grace now : ℕ) (arrivals : List (Arrival K)) where

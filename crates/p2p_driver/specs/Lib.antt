@@ -6,3 +6,10 @@ pub mod Origins
 pub mod Arrivals
 pub mod Digests
 pub mod Answers
+pub mod Actions
+pub mod Links
+pub mod Steps
+pub mod Happenings
+pub mod Drivers
+pub mod Timers
+pub mod Laws

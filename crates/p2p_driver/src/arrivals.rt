@@ -5,10 +5,11 @@ ghost use Rattle.std.specs.Prelude.{find, length, is_some, option_map, IfOk, OnE
 ghost use Rattle.std.specs.Prelude.{vec_len, vec_capacity};
 ghost use Rattle.std.specs.Duration.{as_nanos};
 ghost use Rattle.std.specs.List.{count_by, filter};
-ghost use Rattle.p2p_driver.specs.Arrivals.{has_number, is_of, is_older, deadline_of, lesser_of};
-ghost use Rattle.p2p_driver.specs.Arrivals.{IsLeastDeadline, count_older, has_most, crowded_of};
+ghost use Rattle.p2p_driver.specs.Arrivals.{has_number, is_unclaimed, is_of, is_older};
+ghost use Rattle.p2p_driver.specs.Arrivals.{deadline_of, lesser_of, IsLeastDeadline};
+ghost use Rattle.p2p_driver.specs.Arrivals.{count_older, has_most, crowded_of};
 ghost use Rattle.p2p_driver.specs.Arrivals.{gives_way, arrival_of, room_of, arrived};
-ghost use Rattle.p2p_driver.specs.Arrivals.{Gives, AreYoung};
+ghost use Rattle.p2p_driver.specs.Arrivals.{Gives, AreYoung, with_claim, claimed};
 
 use crate::origin::Origin;
 use crate::pace::Pace;
@@ -78,6 +79,20 @@ impl<K: Copy> Arrivals<K> {
         &self.streams
     }
 
+    /// How many streams haven't claimed.
+    ///
+    /// # Cost
+    ///
+    /// One pass over the streams.
+    pub fn unclaimed(&self) -> usize
+        ensures { result ≡ count_by is_unclaimed self.now }
+    {
+        self.streams
+            .iter()
+            .filter(|stream| stream.claim.is_none())
+            .count()
+    }
+
     /// Takes a stream that came from the origin at the steady time `now`, under a number above all
     /// others, if there is room for it. Returns whether there is, and the number of the stream that
     /// gives way to it, if one does: that one is no longer kept.
@@ -119,6 +134,29 @@ impl<K: Copy> Arrivals<K> {
             }
         }
         Ok(room)
+    }
+
+    /// The stream with the number, or `None` if no stream has it.
+    ///
+    /// # Cost
+    ///
+    /// One pass over the streams, up to that one.
+    pub fn get(&self, number: u64) -> Option<Arrival<K>>
+        ensures { result ≡ find (has_number number) self.now }
+    {
+        get(&self.streams, number)
+    }
+
+    /// From now on the stream with the number, if there is one, has claimed to be the peer's.
+    /// Nothing else changes. It doesn't allocate.
+    ///
+    /// # Cost
+    ///
+    /// One pass over the streams.
+    pub fn claim(&mut self, number: u64, peer: K)
+        ensures { self.new ≡ claimed number peer self.old }
+    {
+        claim(&mut self.streams, number, peer);
     }
 
     /// The number of the first stream that is late at the steady time `now`, if one is: one that
@@ -170,6 +208,36 @@ pub enum Room {
     Free,
     /// There is that of the stream with the number, which gives way.
     Of(u64),
+}
+
+// The stream with the number.
+fn get<K: Copy>(streams: &[Arrival<K>], number: u64) -> Option<Arrival<K>>
+    ensures { result ≡ find (has_number number) streams.now }
+{
+    for stream in streams {
+        if stream.number == number {
+            return Some(*stream);
+        }
+    }
+    None
+}
+
+// The stream with the number has claimed.
+fn claim<K: Copy>(streams: &mut [Arrival<K>], number: u64, peer: K)
+    ensures { streams.new ≡ claimed number peer streams.old }
+{
+    for stream in streams.iter_mut() {
+        claim_as(stream, number, peer);
+    }
+}
+
+// The stream has claimed, if it has the number.
+fn claim_as<K: Copy>(stream: &mut Arrival<K>, number: u64, peer: K)
+    ensures { stream.new ≡ with_claim number peer stream.old }
+{
+    if stream.number == number {
+        stream.claim = Some(peer);
+    }
 }
 
 // Keeps the stream with the number no longer.

@@ -3,11 +3,19 @@
 //! and `p2p_directory`.
 #![tactic(auto)]
 
+pub mod actions;
 pub mod answers;
 pub mod arrivals;
 mod channels;
+mod connections;
 pub mod digest;
+pub mod driver;
+pub mod laws;
+pub mod link;
+pub mod links;
 pub mod origin;
 pub mod pace;
 pub mod rate;
 pub mod recommended;
+mod steps;
+mod streams;

@@ -24,7 +24,8 @@ fn answered(
             first.wrapping_add(count)
         };
         let origin = Origin::of([0, 0, 0, 0, 0, 0, 0, 0, 0, 0, 255, 255, 10, 0, 0, last]);
-        if !answers.answer(origin, pace, Duration::from_millis(millis))? {
+        answers.reserve()?;
+        if !answers.answer(origin, pace, Duration::from_millis(millis)) {
             return Ok(count);
         }
     }

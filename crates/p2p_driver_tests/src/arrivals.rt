@@ -101,3 +101,34 @@ fn a_stream_that_does_not_claim_is_late(rt: HostRuntime) -> Result<(), Fail> {
     assert!(rt; found == ([None, Some(1)], Some(13_000), Some(2), Some(14_000)));
     Ok(())
 }
+
+// Of two streams that came a second apart the first claims to be peer 7's. Who is late 3, 4 and 5 s
+// after it came; what is kept that each claims; and whether a third stream isn't found, of which a
+// claim changes nothing.
+type Claims = ([Option<u64>; 3], [Option<u64>; 2], bool);
+
+fn claims(alloc: Global) -> Result<Claims, AllocError> {
+    let pace = pace(alloc);
+    let mut arrivals = Arrivals::<u64>::new(alloc);
+    arrivals.arrive(1, ipv4(1), &pace, Duration::from_secs(10))?;
+    arrivals.arrive(2, ipv6(1, 1), &pace, Duration::from_secs(11))?;
+    arrivals.claim(1, 7);
+    arrivals.claim(3, 8);
+    let late = [
+        arrivals.late(&pace, Duration::from_secs(13)),
+        arrivals.late(&pace, Duration::from_secs(14)),
+        arrivals.late(&pace, Duration::from_secs(15)),
+    ];
+    let kept = [
+        arrivals.get(1).and_then(|arrival| arrival.claim),
+        arrivals.get(2).and_then(|arrival| arrival.claim),
+    ];
+    Ok((late, kept, arrivals.get(3).is_none()))
+}
+
+#[test]
+fn a_stream_that_claims_has_longer(rt: HostRuntime) -> Result<(), Fail> {
+    let found = claims(rt.alloc())?;
+    assert!(rt; found == ([None, Some(2), Some(1)], [Some(7), None], true));
+    Ok(())
+}

@@ -1,11 +1,19 @@
-//! Tests of the parts of a driver, with moments and numbers of the rules. They may use
-//! `p2p_discovery` and `p2p_driver`; no crate uses them.
+//! Tests of a driver and its parts, with moments and numbers of the rules. They may use the crates
+//! of the library, and `lines`; no crate uses them.
 #![tactic(auto)]
 
+#[cfg(test)]
+mod actions;
 #[cfg(test)]
 mod answers;
 #[cfg(test)]
 mod arrivals;
+#[cfg(test)]
+mod driver;
+#[cfg(test)]
+mod fixtures;
+#[cfg(test)]
+mod links;
 #[cfg(test)]
 mod paces;
 #[cfg(test)]

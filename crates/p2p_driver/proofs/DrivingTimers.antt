@@ -1,0 +1,255 @@
+-- How the time that passes makes a driver stand, by its parts.
+use Rattle.std.proofs.Common.{◌≡◌, ℕ, ◌==◌, ◌+◌, ◌≤◌, ◌<◌, Bool, true, false, not, cond, ◌&&◌, List, [], ◌∷◌, ◌++◌, Option, Some, None, find, filter, refl, sym, ◌∙◌, ap, subst}
+use Rattle.std.proofs.Common.{arith}
+use Rattle.std.specs.Prelude.{is_some, length, max, nat_le, option_map, unwrap_or}
+use Rattle.std.specs.Duration.{as_nanos}
+use Rattle.std.specs.List.{count_by}
+use Rattle.std.specs.Option.{IsSomeAnd}
+use Rattle.std.specs.declared.cmp.Ordering.{Ordering}
+use Rattle.std.specs.declared.time.Duration.{Duration}
+use Rattle.std.proofs.lemmas.Bool.Decides.{nat_tests}
+use Rattle.std.proofs.lemmas.List.{append_assoc}
+use Rattle.p2p_tracker.specs.Calls.Call.{UnblockExpired, ForgetCooled}
+use Rattle.p2p_directory.specs.Nodes.{NodeView}
+use Rattle.p2p_directory.specs.Received.{Wire}
+use Rattle.p2p_driver.specs.Actions.{ActionsView}
+use Rattle.p2p_driver.specs.Answers.{AnswersView, AreKept, roomless}
+use Rattle.p2p_driver.specs.Arrivals.{has_number, is_unclaimed, deadline_of}
+use Rattle.p2p_driver.specs.Drivers.{DriverView, DriverStandsAt, IsRight, HasRoom, Does, Rise, seen, base_of}
+use Rattle.p2p_driver.specs.Happenings.{Happening, calls_of, answered_in, closing, closed_at, shut}
+use Rattle.p2p_driver.specs.Links.{link_of, needs, need_of, need_at, is_late, is_greeting, due}
+use Rattle.p2p_driver.specs.Steps.{Makes}
+use Rattle.p2p_driver.specs.Timers.{ClosesOne, ClosesLate, TimesOut}
+use Rattle.p2p_driver.specs.declared.actions.Action.{Action}
+use Rattle.p2p_driver.specs.declared.actions.Why.TheVariants as why
+use Rattle.p2p_driver.specs.declared.arrivals.Arrival.{Arrival}
+use Rattle.p2p_driver.specs.declared.links.Held.{Held}
+use Rattle.p2p_driver.specs.declared.links.Phase.{Phase}
+use Rattle.p2p_driver.specs.declared.links.Phase.TheVariants as phase
+use Rattle.p2p_driver.specs.declared.pace.Pace.{Pace}
+use Rattle.p2p_driver.proofs.Budget.{none_below}
+use Rattle.p2p_driver.proofs.Driving.{viewed, slotted, unslotted}
+use Rattle.p2p_driver.proofs.Fewer.{leaves_fewer}
+use Rattle.p2p_driver.proofs.Standing
+
+-- a time that is no later than another
+up_to : (a b : ℕ) → nat_le a b ≡ true → a ≤ b
+up_to a b is = grind (arith, nat_tests)
+
+past : (a b : ℕ) → nat_le a b ≡ false → b < a
+past a b isnt = grind (arith, nat_tests)
+
+below : (m n : ℕ) → (m == n) ≡ true → n ≤ m
+below m n is = grind (arith, nat_tests)
+
+same_number : (m n : ℕ) → m ≡ n → (m == n) ≡ true
+same_number m n is = grind (arith, nat_tests)
+
+-- what there is
+pub there : {A : Type 0} (P : A → Type 0) (o : Option A) → IsSomeAnd o P → is_some o ≡ true
+there P None some = absurd some
+there P (Some a) some = refl
+
+-- what isn't found is none of those that are
+unfound : {A : Type 0} (p q : A → Bool) (xs : List A) (a : A) → find p xs ≡ None → find q xs ≡ Some a → p a ≡ false
+unfound p q [] a none is = absurd cc
+unfound p q (x ∷ xs) a none is = go (p x) refl (q x) none is (unfound p q xs a)
+  where
+    go : (b : Bool) → p x ≡ b → (d : Bool) → cond b (Some x) (find p xs) ≡ None → cond d (Some x) (find q xs) ≡ Some a →
+        (find p xs ≡ None → find q xs ≡ Some a → p a ≡ false) → p a ≡ false
+    go true at d none is rest = absurd cc
+    go false at true none is rest = subst (λ y. p y ≡ false) (ap (λ o. unwrap_or o x) is) at
+    go false at false none is rest = rest none is
+
+unmapped : {A B : Type 0} (f : A → B) (o : Option A) → option_map f o ≡ None → o ≡ None
+unmapped f None is = refl
+unmapped f (Some a) is = absurd cc
+
+module _ {C : Type 0} where
+  -- a stream that is found late is the one with its number
+  pub late_found : (p : Arrival C → Bool) (n m k : ℕ) (xs : List (Arrival C)) → Rise m xs k →
+      option_map (λ a. a.number) (find p xs) ≡ Some n → IsSomeAnd (find (has_number n) xs) (λ a. p a ≡ true)
+  late_found p n m k [] rise is = absurd cc
+  late_found p n m k (a ∷ xs) rise is = go (p a) refl is (late_found p n a.number k xs rise.1)
+    where
+      other : (d : Bool) → (a.number == n) ≡ d → IsSomeAnd (find (has_number n) xs) (λ a. p a ≡ true) →
+          IsSomeAnd (cond d (Some a) (find (has_number n) xs)) (λ a. p a ≡ true)
+      other true same rest = absurd (subst (λ o. IsSomeAnd o (λ a. p a ≡ true))
+          (none_below a.number k xs rise.1 n (below a.number n same)) rest)
+      other false isnt rest = rest
+
+      go : (b : Bool) → p a ≡ b → option_map (λ a. a.number) (cond b (Some a) (find p xs)) ≡ Some n →
+          (option_map (λ a. a.number) (find p xs) ≡ Some n → IsSomeAnd (find (has_number n) xs) (λ a. p a ≡ true)) →
+          IsSomeAnd (cond (a.number == n) (Some a) (find (has_number n) xs)) (λ a. p a ≡ true)
+      go true at is rest = subst (λ d. IsSomeAnd (cond d (Some a) (find (has_number n) xs)) (λ a. p a ≡ true))
+          (sym (same_number a.number n (ap (λ o. unwrap_or o n) is))) at
+      go false at is rest = other (a.number == n) refl (rest is)
+
+  -- none of them is late
+  pub none_late : (first handshake t : ℕ) (arrivals : List (Arrival C)) →
+      option_map (λ a. a.number) (find (λ a. nat_le (deadline_of first handshake a) t) arrivals) ≡ None →
+      (n : ℕ) (a : Arrival C) → find (has_number n) arrivals ≡ Some a → t < deadline_of first handshake a
+  none_late first handshake t arrivals none n a is = past (deadline_of first handshake a) t
+      (unfound (λ a. nat_le (deadline_of first handshake a) t) (has_number n) arrivals a
+      (unmapped (λ a. a.number) (find (λ a. nat_le (deadline_of first handshake a) t) arrivals) none) is)
+
+  -- the room for what may have to be said, once a stream is closed
+  pub room_left : (arrivals arrivals2 : List (Arrival C)) (answers answers2 : AnswersView) (links : List (C × Held)) (actions actions2 : ActionsView C) →
+      HasRoom arrivals answers links actions → length arrivals2 + actions.room ≤ actions2.room + length arrivals →
+      count_by is_unclaimed arrivals2 ≤ answers2.room → HasRoom arrivals2 answers2 links actions2
+  room_left arrivals arrivals2 answers answers2 links actions actions2 has fits fits2 = record {
+    actions_fit = let fit = has.actions_fit in grind (arith);
+    answers_fit = fits2;
+  }
+
+-- a link that is late hasn't been greeted on, and its time is over
+late_greeting : (within t : ℕ) (held : Held) → is_late within t held ≡ true →
+    (held.phase ≡ phase.Greeting) × (due within held ≤ t)
+late_greeting within t held late = go held.phase (nat_le (due within held) t) refl late
+  where
+    go : (ph : Phase) (b : Bool) → nat_le (due within held) t ≡ b → (is_greeting ph && b) ≡ true →
+        (ph ≡ phase.Greeting) × (due within held ≤ t)
+    go phase.Greeting true is late = (refl, up_to (due within held) t is)
+    go phase.Greeting false is late = absurd cc
+    go phase.Open b is late = absurd cc
+    go phase.Closing b is late = absurd cc
+
+module _ {C S : Type 0} (cmp : C → C → Ordering) (wire : Wire C S) (node : NodeView C S) (pace : Pace)
+    (greeting : List ℕ) (cooldown latest next : ℕ) (arrivals : List (Arrival C)) (answers : AnswersView)
+    (links : List (C × Held)) (actions : List (Action C)) where
+  abbrev v : DriverView C S
+  v = seen node pace greeting cooldown latest next arrivals answers links actions
+
+  -- time passed
+  pub passes : (t : Duration) (node2 : NodeView C S) → latest ≤ as_nanos t →
+      Makes cmp (UnblockExpired (as_nanos t) ∷ ForgetCooled (as_nanos t) ∷ []) node node2 →
+      Does cmp wire (Happening.Passed t) v (seen node2 pace greeting cooldown (as_nanos t) next arrivals answers links actions)
+  passes t node2 after made = record {
+    goes = λ given pace2 h at.
+        Standing.passed (base_of cmp wire given pace2) h v at t (record node2 { slots = [] }) after
+        (unslotted (made given (calls_of h) (slotted at.node)));
+  }
+
+  -- a stream that is late is closed
+  stream_closes : (n : ℕ) (t : Duration) (arrivals2 : List (Arrival C)) (answers2 : AnswersView) (actions2 : List (Action C)) →
+      latest ≡ as_nanos t →
+      IsSomeAnd (find (has_number n) arrivals) (λ a. nat_le (deadline_of (as_nanos pace.first) (as_nanos pace.handshake) a) (as_nanos t) ≡ true) →
+      arrivals2 ≡ filter (λ a. not (has_number n a)) arrivals → roomless answers2 ≡ roomless answers →
+      actions2 ≡ actions ++ closing n why.Slow →
+      Does cmp wire (Happening.StreamLate n t) v (seen node pace greeting cooldown latest next arrivals2 answers2 links actions2)
+  stream_closes n t arrivals2 answers2 actions2 now late gone same said = record {
+    goes = λ given pace2 h at.
+        let b = base_of cmp wire given pace2 in
+        let e : Happening C S = Happening.StreamLate n t in
+        subst (DriverStandsAt b (e ∷ h))
+        (viewed (record v {
+          latest = as_nanos t;
+          arrivals = filter (λ a. not (has_number n a)) arrivals;
+          answers = roomless answers;
+          actions = actions ++ closing n why.Slow;
+        }) node pace greeting cooldown latest next arrivals2 answers2 links actions2 refl refl refl refl (sym now) refl (sym gone) (sym same) refl (sym said))
+        (Standing.goes b h v at n t e (closing n why.Slow) (roomless answers) refl (λ j. refl) (λ j. refl) (λ j. refl) refl refl
+        (λ p. refl) (λ p. refl) (λ p. refl) (λ p. refl) refl refl refl refl refl
+        (right b h at) (let is = now in grind (arith))
+        (subst (λ k. AreKept b.pace k (answered_in h) (roomless answers)) (sym at.latest ∙ now) at.answers));
+  }
+    where
+      right : (b : _) (h : List (Happening C S)) → DriverStandsAt b h v → IsRight b h (Happening.StreamLate n t)
+      right b h at = subst (λ o. IsSomeAnd o (λ a. deadline_of (as_nanos b.pace.first) (as_nanos b.pace.handshake) a ≤ as_nanos t))
+          (at.arrivals.each n)
+          (subst (λ pace. IsSomeAnd (find (has_number n) arrivals) (λ a. deadline_of (as_nanos pace.first) (as_nanos pace.handshake) a ≤ as_nanos t)) at.pace
+          (in_time (find (has_number n) arrivals) late))
+        where
+          in_time : (o : Option (Arrival C)) →
+              IsSomeAnd o (λ a. nat_le (deadline_of (as_nanos pace.first) (as_nanos pace.handshake) a) (as_nanos t) ≡ true) →
+              IsSomeAnd o (λ a. deadline_of (as_nanos pace.first) (as_nanos pace.handshake) a ≤ as_nanos t)
+          in_time None late = absurd late
+          in_time (Some a) late = up_to (deadline_of (as_nanos pace.first) (as_nanos pace.handshake) a) (as_nanos t) late
+
+  pub late_stream : (n : ℕ) (t : Duration) (arrivals2 : List (Arrival C)) (answers2 : AnswersView) (actions2 : List (Action C)) →
+      latest ≡ as_nanos t →
+      IsSomeAnd (find (has_number n) arrivals) (λ a. nat_le (deadline_of (as_nanos pace.first) (as_nanos pace.handshake) a) (as_nanos t) ≡ true) →
+      arrivals2 ≡ filter (λ a. not (has_number n a)) arrivals → roomless answers2 ≡ roomless answers →
+      actions2 ≡ actions ++ closing n why.Slow →
+      ClosesOne cmp wire t v (seen node pace greeting cooldown latest next arrivals2 answers2 links actions2)
+  late_stream n t arrivals2 answers2 actions2 now late gone same said = record {
+    happening = Happening.StreamLate n t;
+    is_late = refl;
+    does = stream_closes n t arrivals2 answers2 actions2 now late gone same said;
+    latest = refl;
+    fewer = let less = leaves_fewer n arrivals arrivals2 gone (there _ (find (has_number n) arrivals) late) in grind (arith);
+  }
+
+  -- a link that is late is closed
+  link_closes : (n : ℕ) (p : C) (held : Held) (t : Duration) (links2 : List (C × Held)) (actions2 : List (Action C)) →
+      latest ≡ as_nanos t → link_of cmp links p ≡ Some held → n ≡ held.number →
+      is_late (as_nanos pace.greeting) (as_nanos t) held ≡ true →
+      ((q : C) → link_of cmp links2 q ≡ closed_at cmp p (link_of cmp links) q) → length links2 ≡ length links →
+      actions2 ≡ actions ++ shut p why.Slow (link_of cmp links p) →
+      Does cmp wire (Happening.LinkLate n p t) v (seen node pace greeting cooldown latest next arrivals answers links2 actions2)
+  link_closes n p held t links2 actions2 now linked is late tied same said = record {
+    goes = λ given pace2 h at.
+        let b = base_of cmp wire given pace2 in
+        let tells = late_greeting (as_nanos pace.greeting) (as_nanos t) held late in
+        subst (DriverStandsAt b (Happening.LinkLate n p t ∷ h))
+        (viewed (record v {
+          latest = as_nanos t;
+          links = links2;
+          actions = actions ++ shut p why.Slow (link_of cmp links p);
+        }) node pace greeting cooldown latest next arrivals answers links2 actions2 refl refl refl refl (sym now) refl refl refl refl (sym said))
+        (Standing.lapses b h v at n p t links2
+        (subst (λ o. IsSomeAnd o (λ held. (held.number ≡ n) × (held.phase ≡ phase.Greeting)
+        × (as_nanos held.since + as_nanos b.pace.greeting ≤ as_nanos t))) (sym linked ∙ at.links p)
+        (sym is, tells.0, subst (λ pace. as_nanos held.since + as_nanos pace.greeting ≤ as_nanos t) at.pace tells.1))
+        (let is = now in grind (arith)) tied same);
+  }
+
+  pub late_link : (p : C) (t : Duration) (links2 : List (C × Held)) (actions2 : List (Action C)) →
+      latest ≡ as_nanos t →
+      IsSomeAnd (link_of cmp links p) (λ held. is_late (as_nanos pace.greeting) (as_nanos t) held ≡ true) →
+      ((q : C) → link_of cmp links2 q ≡ closed_at cmp p (link_of cmp links) q) → length links2 ≡ length links →
+      actions2 ≡ actions ++ shut p why.Slow (link_of cmp links p) → needs links2 + need_at (link_of cmp links p) ≡ needs links →
+      ClosesOne cmp wire t v (seen node pace greeting cooldown latest next arrivals answers links2 actions2)
+  late_link p t links2 actions2 now late tied same said less = go (link_of cmp links p) refl late
+    where
+      needed : (held : Held) → link_of cmp links p ≡ Some held → held.phase ≡ phase.Greeting → needs links2 + 1 ≡ needs links
+      needed held linked greets = sym (ap (λ o. needs links2 + need_at o) linked ∙ ap (λ ph. needs links2 + need_of ph) greets) ∙ less
+
+      go : (o : Option Held) → link_of cmp links p ≡ o →
+          IsSomeAnd o (λ held. is_late (as_nanos pace.greeting) (as_nanos t) held ≡ true) →
+          ClosesOne cmp wire t v (seen node pace greeting cooldown latest next arrivals answers links2 actions2)
+      go None linked late = absurd late
+      go (Some held) linked late = record {
+        happening = Happening.LinkLate held.number p t;
+        is_late = refl;
+        does = link_closes held.number p held t links2 actions2 now linked refl late tied same said;
+        latest = refl;
+        fewer = let one = needed held linked (late_greeting (as_nanos pace.greeting) (as_nanos t) held late).0 in grind (arith);
+      }
+
+module _ {C S : Type 0} (cmp : C → C → Ordering) (wire : Wire C S) (t : Duration) where
+  -- none was closed
+  pub closes_none : (v : DriverView C S) → ClosesLate cmp wire t v v
+  closes_none v = record { happenings = []; are_late = tt; does = λ given pace h at. at; latest = refl }
+
+  -- one more was closed
+  pub closes_more : (v v2 v3 : DriverView C S) → ClosesLate cmp wire t v v2 → ClosesOne cmp wire t v2 v3 → ClosesLate cmp wire t v v3
+  closes_more v v2 v3 before one = record {
+    happenings = one.happening ∷ before.happenings;
+    are_late = (one.is_late, before.are_late);
+    does = λ given pace h at. one.does.goes given pace (before.happenings ++ h) (before.does given pace h at);
+    latest = one.latest ∙ before.latest;
+  }
+
+  -- time passed, and then they were closed
+  pub times_out : (now : ℕ) (v v2 v3 : DriverView C S) → as_nanos t ≡ max v.latest now → Does cmp wire (Happening.Passed t) v v2 →
+      ClosesLate cmp wire t v2 v3 → TimesOut cmp wire now v v3
+  times_out now v v2 v3 is passed closes = record {
+    time = t;
+    time_is = is;
+    late = closes.happenings;
+    are_late = closes.are_late;
+    does = λ given pace h at. subst (λ k. DriverStandsAt (base_of cmp wire given pace) k v3)
+        (sym (append_assoc closes.happenings (Happening.Passed t ∷ []) h))
+        (closes.does given pace (Happening.Passed t ∷ h) (passed.goes given pace h at));
+  }

@@ -1,0 +1,325 @@
+-- Links of peers, as they are kept by peer and by number.
+use Rattle.std.proofs.Common.{◌≡◌, ◌≤◌, ◌+◌, ℕ, Bool, true, false, cond, List, [], ◌∷◌}
+use Rattle.std.proofs.Common.{Option, Some, None, refl, sym, ◌∙◌, ap, subst, arith}
+use Rattle.std.proofs.Common.{Less, Equal, Greater, inl, inr}
+use Rattle.std.specs.Prelude.{IfSome, IfNone, option_map, unwrap_or, length, if◌then◌else◌}
+use Rattle.std.specs.declared.cmp.Ordering.{Ordering}
+use Rattle.std.specs.BTreeMap.{is_at, insert_entry}
+use Rattle.std.specs.Cmp.{IsTotalOrder, IsEquivalence, eq_by_cmp_equiv}
+use Rattle.std.specs.HashMap.Eq.{lookup_congr}
+use Rattle.std.specs.List.Sorted.{IsStrictlySortedBy}
+use Rattle.std.specs.Map.{lookup, keys_of, remove_entry, set_value}
+use Rattle.std.specs.Option.{IsSomeAnd, IsSome}
+use Rattle.std.specs.Ordering.{nat_cmp, eq_by_cmp, match_ordering, is_eq}
+use Rattle.std.specs.Cmp.{nat_cmp_is}
+use Rattle.std.proofs.lemmas.Bool.{cases_lt}
+use Rattle.std.proofs.lemmas.Cmp.{nat_cmp_total}
+use Rattle.std.proofs.lemmas.Map.{lookup-set_value, length-set_value}
+use Rattle.std.proofs.lemmas.Map.Entries.{sum_by-remove_entry, sum_by-set_value, sum_by-insert_entry}
+use Rattle.p2p_driver.specs.declared.links.Held.{Held}
+use Rattle.p2p_driver.specs.declared.links.Phase.{Phase}
+use Rattle.p2p_driver.specs.declared.links.Phase.TheVariants as phase
+use Rattle.p2p_driver.specs.Links.{link_of, need_of, need_at, needs, greeted, is_greeting, one_if_greeting, opened, closed}
+use Rattle.p2p_driver.specs.Links.{AreInverse, AreNumbered, AreAlike}
+
+-- a number is equal to itself
+itself : (n : ℕ) → is_at (nat_cmp n) n ≡ true
+itself n = (eq_by_cmp_equiv nat_cmp_total).refl n
+
+-- the same number
+same : (n m : ℕ) → is_at (nat_cmp n) m ≡ true → n ≡ m
+same n m is = elim (cases_lt n m) [
+  | inl less ↦ absurd (let e = sym (ap is_eq (nat_cmp_is n m Less less)) in
+      let f = sym is ∙ e in cc)
+  | inr more ↦ elim (cases_lt m n) [
+    | inl less ↦ absurd (let e = sym (ap is_eq (nat_cmp_is n m Greater less)) in
+        let f = sym is ∙ e in cc)
+    | inr less ↦ omega (arith, less, more)
+  ]
+]
+
+-- what isn't there isn't written
+pub set_none : {K X : Type 0} (test : K → Bool) (es : List (K × X)) (w : X) →
+    lookup test es ≡ None → set_value test es w ≡ es
+set_none test [] w none = refl
+set_none {K} {X} test (e ∷ es) w none = go (test e.0) none (set_none test es w)
+  where
+    go : (b : Bool) → cond b (Some e.1) (lookup test es) ≡ None →
+        (lookup test es ≡ None → set_value test es w ≡ es) →
+        cond b ((e.0, w) ∷ es) (e ∷ set_value test es w) ≡ e ∷ es
+    go true none rest = absurd cc
+    go false none rest = ap (λ fs. e ∷ fs) (rest none)
+
+-- BY PEER AND BY NUMBER
+module _ {C : Type 0} {cmp : C → C → Ordering} (total : IsTotalOrder cmp) where
+  laws : IsEquivalence (eq_by_cmp cmp)
+  laws = eq_by_cmp_equiv total
+
+  pub alike : (links : List (C × Held)) → AreAlike cmp links
+  alike links p q e = lookup_congr (eq_by_cmp cmp) laws.congr links p q e
+
+  -- of equal keys
+  turned : (p q : C) → is_at (cmp p) q ≡ true → is_at (cmp q) p ≡ true
+  turned p q e = sym (laws.symm p q) ∙ e
+
+  through : (p q r : C) → is_at (cmp p) q ≡ true → is_at (cmp p) r ≡ true → is_at (cmp q) r ≡ true
+  through p q r e f = sym (laws.congr p q r e) ∙ f
+
+  -- a link is written over
+  pub written : (links : List (C × Held)) (f : Held → Held) (peer : C) (held : Held) →
+      link_of cmp links peer ≡ Some held → (q : C) →
+      link_of cmp (set_value (is_at (cmp peer)) links (f held)) q
+      ≡ cond (is_at (cmp peer) q) (option_map f (link_of cmp links q)) (link_of cmp links q)
+  written links f peer held has q =
+      lookup-set_value laws (is_at (cmp peer)) (λ x y t. laws.congr peer x y t) q (f held) links
+      (subst (λ o. IsSome o) (sym has) refl)
+      ∙ go (is_at (cmp peer) q) refl
+    where
+      go : (b : Bool) → is_at (cmp peer) q ≡ b → cond b (Some (f held)) (link_of cmp links q)
+          ≡ cond b (option_map f (link_of cmp links q)) (link_of cmp links q)
+      go true e = ap (option_map f) (sym has ∙ alike links peer q e)
+      go false e = refl
+
+  module _ (links new : List (C × Held)) (f : Held → Held) (peer : C) (held : Held)
+      (has : link_of cmp links peer ≡ Some held)
+      (is : new ≡ set_value (is_at (cmp peer)) links (f held)) where
+    pub written_at : (q : C) → link_of cmp new q
+        ≡ cond (is_at (cmp peer) q) (option_map f (link_of cmp links q)) (link_of cmp links q)
+    written_at q = ap (λ ls. link_of cmp ls q) is ∙ written links f peer held has q
+
+    pub written_count : length new ≡ length links
+    written_count = ap length is ∙ length-set_value (is_at (cmp peer)) links (f held)
+
+    pub written_needs : needs new + need_of held.phase ≡ needs links + need_of (f held).phase
+    written_needs = ap (λ ls. needs ls + need_of held.phase) is
+        ∙ sum_by-set_value (λ h. need_of h.phase) (is_at (cmp peer)) links held (f held) has
+
+  pub needs_closed : (links new : List (C × Held)) (peer : C) (held : Held) →
+      link_of cmp links peer ≡ Some held →
+      new ≡ set_value (is_at (cmp peer)) links (closed held) →
+      needs new + need_at (link_of cmp links peer) ≡ needs links
+  needs_closed links new peer held has is =
+      let e : need_at (link_of cmp links peer) ≡ need_of held.phase = ap need_at has in
+      omega (arith, written_needs links new closed peer held has is)
+
+  once_greeted : (p : Phase) → need_of (greeted p) ≡ need_of p + (if is_greeting p then 1 else 0)
+  once_greeted phase.Greeting = refl
+  once_greeted phase.Open = refl
+  once_greeted phase.Closing = refl
+
+  pub needs_opened : (links new : List (C × Held)) (peer : C) (held : Held) →
+      link_of cmp links peer ≡ Some held →
+      new ≡ set_value (is_at (cmp peer)) links (opened held) →
+      needs new ≡ needs links + one_if_greeting (link_of cmp links peer)
+  needs_opened links new peer held has is =
+      let e : one_if_greeting (link_of cmp links peer) ≡ (if is_greeting held.phase then 1 else 0) =
+      ap one_if_greeting has in
+      omega (arith, written_needs links new opened peer held has is, once_greeted held.phase)
+
+  pub needs_put : (links new : List (C × Held)) (peer : C) (held : Held) →
+      IsStrictlySortedBy cmp (keys_of links) → link_of cmp links peer ≡ None →
+      new ≡ insert_entry cmp links peer held → needs new ≡ needs links + need_of held.phase
+  needs_put links new peer held sorted none is =
+      let e : need_at (link_of cmp links peer) ≡ 0 = ap need_at none in
+      ap needs is ∙ omega (arith, sum_by-insert_entry (λ h. need_of h.phase) total links peer held sorted)
+
+  pub need_within : (links : List (C × Held)) (q : C) → need_at (link_of cmp links q) ≤ needs links
+  need_within links q =
+      omega (arith, sum_by-remove_entry (λ h. need_of h.phase) (is_at (cmp q)) links)
+
+  module _ (links : List (C × Held)) (at : ℕ → Option C) (inverse : AreInverse cmp links at) where
+    -- what is found by number
+    pub found : (n : ℕ) (r : Option C) → r ≡ at n →
+        IfSome r (λ p. IsSomeAnd (link_of cmp links p) (λ h. h.number ≡ n))
+    found n None e = tt
+    found n (Some p) e = inverse.forth n p (sym e)
+
+    back_at : (n : ℕ) (r : Option C) → r ≡ at n → (q : C) (h : Held) → link_of cmp links q ≡ Some h →
+        h.number ≡ n → IsSomeAnd r (λ p. is_at (cmp p) q ≡ true)
+    back_at n r e q h has is =
+        subst (λ o. IsSomeAnd o (λ p. is_at (cmp p) q ≡ true)) (ap at is ∙ sym e) (inverse.back q h has)
+
+    pub only : (n : ℕ) (r : Option C) → r ≡ at n → IfSome r (λ p. (q : C) (h : Held) →
+        link_of cmp links q ≡ Some h → h.number ≡ n → is_at (cmp p) q ≡ true)
+    only n None e = tt
+    only n (Some p) e = back_at n (Some p) e
+
+    pub none_found : (n : ℕ) (r : Option C) → r ≡ at n → IfNone r ((q : C) (h : Held) →
+        link_of cmp links q ≡ Some h → h.number ≡ n → ⊥)
+    none_found n None e = back_at n None e
+    none_found n (Some p) e = tt
+
+    pub numbered : AreNumbered cmp links
+    numbered p q g h has_p has_q is = go (at h.number) refl (back_at h.number (at h.number) refl p g has_p is)
+        (back_at h.number (at h.number) refl q h has_q refl)
+      where
+        go : (o : Option C) → at h.number ≡ o → IsSomeAnd o (λ r. is_at (cmp r) p ≡ true) →
+            IsSomeAnd o (λ r. is_at (cmp r) q ≡ true) → is_at (cmp p) q ≡ true
+        go None e at_p at_q = absurd at_p
+        go (Some r) e at_p at_q = through r p q at_p at_q
+
+    -- no peer is found by a number that no link has
+    pub unused : (n : ℕ) → ((q : C) (h : Held) → link_of cmp links q ≡ Some h → h.number ≡ n → ⊥) →
+        at n ≡ None
+    unused n free = go (at n) refl
+      where
+        go : (o : Option C) → at n ≡ o → at n ≡ None
+        go None e = e
+        go (Some p) e = absurd (by (link_of cmp links p) refl (inverse.forth n p e))
+          where
+            by : (l : Option Held) → link_of cmp links p ≡ l → IsSomeAnd l (λ h. h.number ≡ n) → ⊥
+            by None f is = is
+            by (Some h) f is = free p h f is
+
+    -- the same peers are found by the same numbers
+    pub inverse_at : (at2 : ℕ → Option C) → ((n : ℕ) → at2 n ≡ at n) → AreInverse cmp links at2
+    inverse_at at2 e = record {
+      forth = λ n p f. inverse.forth n p (sym (e n) ∙ f);
+      back = λ q h has. subst (λ o. IsSomeAnd o (λ p. is_at (cmp p) q ≡ true)) (sym (e h.number))
+          (inverse.back q h has);
+    }
+
+    -- a link that is written over keeps its number
+    pub inverse_on : (new : List (C × Held)) (f : Held → Held) (peer : C) →
+        ((h : Held) → (f h).number ≡ h.number) →
+        ((q : C) → link_of cmp new q
+        ≡ cond (is_at (cmp peer) q) (option_map f (link_of cmp links q)) (link_of cmp links q)) →
+        AreInverse cmp new at
+    inverse_on new f peer keeps e = record {
+      forth = λ n p has. forward n (is_at (cmp peer) p) (link_of cmp links p) (link_of cmp new p) (e p)
+          (inverse.forth n p has);
+      back = λ q h has. let was = before (is_at (cmp peer) q) (link_of cmp links q) h (sym (e q) ∙ has) in
+          back_at h.number (at h.number) refl q was.0 was.1 was.2;
+    }
+      where
+        forward : (n : ℕ) (b : Bool) (old now : Option Held) → now ≡ cond b (option_map f old) old →
+            IsSomeAnd old (λ h. h.number ≡ n) → IsSomeAnd now (λ h. h.number ≡ n)
+        forward n b None now is has = absurd has
+        forward n true (Some h) now is has =
+            subst (λ o. IsSomeAnd o (λ h. h.number ≡ n)) (sym is) (keeps h ∙ has)
+        forward n false (Some h) now is has =
+            subst (λ o. IsSomeAnd o (λ h. h.number ≡ n)) (sym is) has
+
+        before : (b : Bool) (old : Option Held) (h : Held) → cond b (option_map f old) old ≡ Some h →
+            (g : Held) × (old ≡ Some g) × (g.number ≡ h.number)
+        before true None h is = absurd cc
+        before false None h is = absurd cc
+        before true (Some g) h is =
+            (g, refl, sym (keeps g) ∙ ap (λ o. unwrap_or (option_map (λ h. h.number) o) 0) is)
+        before false (Some g) h is = (g, refl, ap (λ o. unwrap_or (option_map (λ h. h.number) o) 0) is)
+
+    -- one more link
+    module _ (new : List (C × Held)) (at2 : ℕ → Option C) (peer : C) (held : Held)
+        (unlinked : link_of cmp links peer ≡ None)
+        (free : (q : C) (h : Held) → link_of cmp links q ≡ Some h → h.number ≡ held.number → ⊥)
+        (put : (q : C) → link_of cmp new q
+        ≡ cond (is_at (cmp peer) q) (Some held) (link_of cmp links q))
+        (put2 : (n : ℕ) → at2 n ≡ cond (is_at (nat_cmp held.number) n) (Some peer) (at n)) where
+      pub inverse_put : AreInverse cmp new at2
+      inverse_put = record {
+        forth = λ n p has. forward n p (is_at (nat_cmp held.number) n) refl (sym (put2 n) ∙ has);
+        back = λ q h has. backward q h (is_at (cmp peer) q) refl (sym (put q) ∙ has);
+      }
+        where
+          other : (p : C) (l : Option Held) → link_of cmp links p ≡ l → (P : Held → Type 0) →
+              IsSomeAnd l P → (b : Bool) → is_at (cmp peer) p ≡ b → IsSomeAnd (link_of cmp new p) P
+          other p None e P has b at = absurd has
+          other p (Some h) e P has true at = absurd (let f = sym unlinked ∙ alike links peer p at ∙ e in cc)
+          other p (Some h) e P has false at = subst (λ o. IsSomeAnd o P)
+              (sym (put p ∙ ap (λ b. cond b (Some held) (link_of cmp links p)) at ∙ e)) has
+
+          forward : (n : ℕ) (p : C) (b : Bool) → is_at (nat_cmp held.number) n ≡ b →
+              cond b (Some peer) (at n) ≡ Some p → IsSomeAnd (link_of cmp new p) (λ h. h.number ≡ n)
+          forward n p true e is =
+              let here : link_of cmp new p ≡ Some held = put p
+              ∙ ap (λ b. cond b (Some held) (link_of cmp links p))
+              (ap (λ o. is_at (cmp peer) (unwrap_or o peer)) (sym is) ∙ laws.refl peer) in
+              subst (λ o. IsSomeAnd o (λ h. h.number ≡ n)) (sym here) (same held.number n e)
+          forward n p false e is = other p (link_of cmp links p) refl (λ h. h.number ≡ n)
+              (inverse.forth n p is) (is_at (cmp peer) p) refl
+
+          backward : (q : C) (h : Held) (b : Bool) → is_at (cmp peer) q ≡ b →
+              cond b (Some held) (link_of cmp links q) ≡ Some h →
+              IsSomeAnd (at2 h.number) (λ p. is_at (cmp p) q ≡ true)
+          backward q h true e is =
+              let number : held.number ≡ h.number =
+              ap (λ o. unwrap_or (option_map (λ h. h.number) o) 0) is in
+              let here : at2 h.number ≡ Some peer = ap at2 (sym number) ∙ put2 held.number
+              ∙ ap (λ b. cond b (Some peer) (at held.number)) (itself held.number) in
+              subst (λ o. IsSomeAnd o (λ p. is_at (cmp p) q ≡ true)) (sym here) e
+          backward q h false e is = go (is_at (nat_cmp held.number) h.number) refl
+            where
+              go : (b : Bool) → is_at (nat_cmp held.number) h.number ≡ b →
+                  IsSomeAnd (at2 h.number) (λ p. is_at (cmp p) q ≡ true)
+              go true at_number = absurd (free q h is (sym (same held.number h.number at_number)))
+              go false at_number = subst (λ o. IsSomeAnd o (λ p. is_at (cmp p) q ≡ true))
+                  (sym (put2 h.number ∙ ap (λ b. cond b (Some peer) (at h.number)) at_number))
+                  (inverse.back q h is)
+
+    -- .. and one less
+    module _ (new : List (C × Held)) (at2 : ℕ → Option C) (peer : C) (held : Held)
+        (linked : link_of cmp links peer ≡ Some held)
+        (gone : (q : C) → link_of cmp new q ≡ cond (is_at (cmp peer) q) None (link_of cmp links q))
+        (gone2 : (n : ℕ) → at2 n ≡ cond (is_at (nat_cmp held.number) n) None (at n)) where
+      pub inverse_removed : AreInverse cmp new at2
+      inverse_removed = record {
+        forth = λ n p has. forward n p (is_at (nat_cmp held.number) n) refl (sym (gone2 n) ∙ has);
+        back = λ q h has. backward q h (is_at (cmp peer) q) refl (sym (gone q) ∙ has);
+      }
+        where
+          other : (n : ℕ) → is_at (nat_cmp held.number) n ≡ false → (p : C) (l : Option Held) →
+              link_of cmp links p ≡ l → IsSomeAnd l (λ h. h.number ≡ n) →
+              (b : Bool) → is_at (cmp peer) p ≡ b → IsSomeAnd (link_of cmp new p) (λ h. h.number ≡ n)
+          other n apart p None e has b at = absurd has
+          other n apart p (Some h) e has true at =
+              let one : held.number ≡ h.number = ap (λ o. unwrap_or (option_map (λ h. h.number) o) 0)
+              (sym linked ∙ alike links peer p at ∙ e) in
+              absurd (let f = sym (itself held.number)
+              ∙ ap (λ m. is_at (nat_cmp held.number) m) (one ∙ has) ∙ apart in cc)
+          other n apart p (Some h) e has false at = subst (λ o. IsSomeAnd o (λ h. h.number ≡ n))
+              (sym (gone p ∙ ap (λ b. cond b None (link_of cmp links p)) at ∙ e)) has
+
+          forward : (n : ℕ) (p : C) (b : Bool) → is_at (nat_cmp held.number) n ≡ b →
+              cond b None (at n) ≡ Some p → IsSomeAnd (link_of cmp new p) (λ h. h.number ≡ n)
+          forward n p true e is = absurd cc
+          forward n p false e is = other n e p (link_of cmp links p) refl (inverse.forth n p is)
+              (is_at (cmp peer) p) refl
+
+          backward : (q : C) (h : Held) (b : Bool) → is_at (cmp peer) q ≡ b →
+              cond b None (link_of cmp links q) ≡ Some h →
+              IsSomeAnd (at2 h.number) (λ p. is_at (cmp p) q ≡ true)
+          backward q h true e is = absurd cc
+          backward q h false e is = go (is_at (nat_cmp held.number) h.number) refl
+            where
+              go : (b : Bool) → is_at (nat_cmp held.number) h.number ≡ b →
+                  IsSomeAnd (at2 h.number) (λ p. is_at (cmp p) q ≡ true)
+              go true at_number = absurd (let f = sym (numbered peer q held h linked is
+                  (same held.number h.number at_number)) ∙ e in cc)
+              go false at_number = subst (λ o. IsSomeAnd o (λ p. is_at (cmp p) q ≡ true))
+                  (sym (gone2 h.number ∙ ap (λ b. cond b None (at h.number)) at_number))
+                  (inverse.back q h is)
+
+  -- a link that is put and then removed leaves the links as they were
+  pub put_back : (v v1 v2 : List (C × Held)) (peer : C) (held : Held) → link_of cmp v peer ≡ None →
+      v1 ≡ insert_entry cmp v peer held → v2 ≡ remove_entry (is_at (cmp peer)) v1 → v2 ≡ v
+  put_back v v1 v2 peer held none put removed =
+      removed ∙ ap (remove_entry (is_at (cmp peer))) put ∙ by v none
+    where
+      by : (es : List (C × Held)) → link_of cmp es peer ≡ None →
+          remove_entry (is_at (cmp peer)) (insert_entry cmp es peer held) ≡ es
+      by [] none = ap (λ b. cond b [] ((peer, held) ∷ [])) (laws.refl peer)
+      by (e ∷ es) none = go (cmp peer e.0) refl (by es)
+        where
+          go : (o : Ordering) → cmp peer e.0 ≡ o → (link_of cmp es peer ≡ None →
+              remove_entry (is_at (cmp peer)) (insert_entry cmp es peer held) ≡ es) →
+              remove_entry (is_at (cmp peer)) (match_ordering o ((peer, held) ∷ e ∷ es)
+              ((e.0, held) ∷ es) (e ∷ insert_entry cmp es peer held)) ≡ e ∷ es
+          go Less is rest = ap (λ b. cond b (e ∷ es) ((peer, held) ∷ remove_entry (is_at (cmp peer)) (e ∷ es)))
+              (laws.refl peer)
+          go Equal is rest = absurd (let f = sym (ap (λ o. cond (is_eq o) (Some e.1) (link_of cmp es peer)) is)
+              ∙ none in cc)
+          go Greater is rest =
+              ap (λ o. cond (is_eq o) (insert_entry cmp es peer held)
+              (e ∷ remove_entry (is_at (cmp peer)) (insert_entry cmp es peer held))) is
+              ∙ ap (λ fs. e ∷ fs) (rest (sym (ap (λ o. cond (is_eq o) (Some e.1) (link_of cmp es peer)) is)
+              ∙ none))

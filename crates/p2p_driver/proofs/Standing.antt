@@ -1,0 +1,366 @@
+-- How a driver stands after one more happening.
+use Rattle.std.proofs.Common.{◌≡◌, ℕ, ◌==◌, ◌+◌, ◌≤◌, Bool, true, false, not, cond, List, [], ◌∷◌, ◌++◌, Option, Some, None, filter, refl, sym, ◌∙◌, ap, subst}
+use Rattle.std.proofs.Common.{arith}
+use Rattle.std.specs.Prelude.{if◌then◌else◌, length, option_map}
+use Rattle.std.specs.Duration.{as_nanos}
+use Rattle.std.specs.List.{count_by}
+use Rattle.std.specs.BTreeMap.{is_at}
+use Rattle.std.specs.declared.time.Duration.{Duration}
+use Rattle.std.proofs.lemmas.List.Sums.{sum_by-cons}
+use Rattle.p2p_discovery.specs.Ordered.{has_key}
+use Rattle.p2p_tracker.specs.Calls.{Settings}
+use Rattle.p2p_tracker.specs.History.{found_with, last_with}
+use Rattle.p2p_tracker.specs.Calls.Call.{Track, Listen, Release, UnblockExpired, ForgetCooled}
+use Rattle.p2p_directory.specs.Nodes.{NodeView, NodeStandsAt}
+use Rattle.p2p_driver.specs.Answers.{AnswersView, AreKept}
+use Rattle.p2p_driver.specs.Arrivals.{has_number, arrival_of, arrived, claimed, room_of}
+use Rattle.p2p_driver.specs.Happenings.{Happening, time_by, latest_at, latest_of, calls_of, calls_by, came_by, leaves_by, claim_by, is_new, answered_in, answered_by, is_proved, is_ended, link_at, opened_by, ends_by, closes_by, greets_by, said, says_by, taken, taken_by, crowded_out, sent, shut, shut_all, parted}
+use Rattle.p2p_driver.specs.Links.{link_of, link_with, closed}
+use Rattle.p2p_driver.specs.Drivers.{DriverView, Base, DriverStandsAt, IsRight, IsInTime, AreStreams, IsLinkOf}
+use Rattle.p2p_driver.specs.declared.actions.Action.{Action}
+use Rattle.p2p_driver.specs.declared.actions.Why.TheVariants as why
+use Rattle.p2p_driver.specs.declared.arrivals.Room.{Room}
+use Rattle.p2p_driver.specs.declared.arrivals.Room.TheVariants as room
+use Rattle.p2p_driver.specs.declared.links.Held.{Held}
+use Rattle.p2p_driver.specs.declared.origin.Origin.{Origin}
+use Rattle.std.proofs.lemmas.List.{append-nil}
+use Rattle.p2p_driver.proofs.Answered.{kept_at_later}
+use Rattle.p2p_driver.proofs.StreamHistory.{streams_stay, streams_leave, streams_claim, streams_come, next_stays, next_rises}
+use Rattle.p2p_driver.proofs.LinkHistory.{link_after, link_stays, link_later, link_opens, ended_link, unchanged_link, said_more, took_one}
+
+module _ {C S : Type 0} where
+  -- how many are of a kind, with one more
+  pub one_more : (p : Happening C S → Bool) (e : Happening C S) (h : List (Happening C S)) (b : Bool) → p e ≡ b →
+      count_by p (e ∷ h) ≡ cond b 1 0 + count_by p h
+  one_more p e h b is = sum_by-cons (λ e. cond (p e) 1 0) e h ∙ ap (λ b. cond b 1 0 + count_by p h) is
+
+-- a link that was closed, or not
+closed_after : (b : Bool) (o : Option Held) → (if b then option_map closed o else o) ≡ link_after false b false o
+closed_after true None = refl
+closed_after true (Some held) = refl
+closed_after false o = sym (unchanged_link o)
+
+module _ {C S : Type 0} (b : Base C S) (h : List (Happening C S)) (v : DriverView C S)
+    (at : DriverStandsAt b h v) where
+  abbrev pub d : Settings C S
+  d = b.made.directory
+
+  -- the claims that were answered, later
+  pub answers_later : (t : ℕ) → v.latest ≤ t → AreKept b.pace t (answered_in h) v.answers
+  answers_later t after = kept_at_later b.pace (latest_at h) (answered_in h) v.answers t at.answers
+      (subst (λ l. l ≤ t) at.latest after)
+
+  in_time : (t : ℕ) → v.latest ≤ t → latest_at h ≤ t
+  in_time t after = subst (λ l. l ≤ t) at.latest after
+
+  -- links stay as they are
+  links_stay : (e : Happening C S) → ((p : C) → opened_by d p e ≡ None) →
+      ((p : C) → ends_by d p e ≡ false) → ((p : C) → closes_by d p e ≡ false) →
+      ((p : C) → greets_by d p e ≡ false) → (p : C) → link_of d.cmp v.links p ≡ link_at d p (e ∷ h)
+  links_stay e opened ends closes greets p =
+      at.links p ∙ sym (link_stays d p e h (opened p) (ends p) (closes p) (greets p))
+
+  -- .. and as many
+  count_stays : (e : Happening C S) → is_ended e ≡ false → is_proved e ≡ false →
+      length v.links + count_by is_ended (e ∷ h) ≡ count_by is_proved (e ∷ h)
+  count_stays e ended proved = let more_ended = one_more is_ended e h false ended in
+      let more_proved = one_more is_proved e h false proved in let before = at.count in grind (arith)
+
+  -- nothing is taken
+  says : (told : List (Action C)) (e : Happening C S) → taken_by e ≡ [] → says_by d b.greeting h e ≡ told →
+      taken (e ∷ h) ++ (v.actions ++ told) ≡ said d b.greeting (e ∷ h)
+  says told e none is = ap (λ xs. (taken h ++ xs) ++ (v.actions ++ told)) none
+      ∙ said_more (taken h) v.actions (said d b.greeting h) told at.actions
+      ∙ ap (λ xs. said d b.greeting h ++ xs) (sym is)
+
+  says_nothing : (e : Happening C S) → taken_by e ≡ [] → says_by d b.greeting h e ≡ [] →
+      taken (e ∷ h) ++ v.actions ≡ said d b.greeting (e ∷ h)
+  says_nothing e none is =
+      ap (λ told. taken (e ∷ h) ++ told) (sym (append-nil v.actions)) ∙ says [] e none is
+
+  -- a stream came
+  pub came : (origin : Origin) (t : Duration) (space : Room) → ¬ (space ≡ room.None) →
+      room_of v.pace (as_nanos t) v.arrivals origin ≡ space → v.latest ≤ as_nanos t →
+      DriverStandsAt b (Happening.Arrived v.next origin t space ∷ h) (record v {
+        latest = as_nanos t;
+        next = v.next + 1;
+        arrivals = arrived (arrival_of v.next origin t) space v.arrivals;
+        actions = v.actions ++ crowded_out space;
+      })
+  came origin t space some is after = let e : Happening C S = Happening.Arrived v.next origin t space in record {
+    node = at.node;
+    pace = at.pace;
+    greeting = at.greeting;
+    cooldown = at.cooldown;
+    latest = refl;
+    next = ap (λ n. n + 1) at.next ∙ sym (next_rises e h refl);
+    arrivals = subst (λ n. AreStreams (Happening.Arrived n origin t space ∷ h)
+        (arrived (arrival_of n origin t) space v.arrivals)) (sym at.next)
+        (streams_come origin t space h v.arrivals some at.arrivals);
+    answers = answers_later (as_nanos t) after;
+    links = links_stay e (λ p. refl) (λ p. refl) (λ p. refl) (λ p. refl);
+    count = count_stays e refl refl;
+    actions = says (crowded_out space) e refl refl;
+    right = (
+      (
+        at.next,
+        some,
+        (
+          v.arrivals,
+          at.arrivals,
+          ap (λ pace. room_of pace (as_nanos t) v.arrivals origin) (sym at.pace) ∙ is,
+        ),
+      ),
+      in_time (as_nanos t) after,
+      at.right,
+    );
+  }
+
+  -- a stream claimed, and is answered
+  pub claims : (n : ℕ) (p : C) (origin : Origin) (t : Duration) (answers : AnswersView) →
+      IsRight b h (Happening.Claimed n p origin t) → v.latest ≤ as_nanos t →
+      AreKept b.pace (as_nanos t) ((origin.0, as_nanos t) ∷ answered_in h) answers →
+      DriverStandsAt b (Happening.Claimed n p origin t ∷ h) (record v {
+        latest = as_nanos t;
+        arrivals = claimed n p v.arrivals;
+        answers = answers;
+      })
+  claims n p origin t answers right after kept =
+      let e : Happening C S = Happening.Claimed n p origin t in record {
+        node = at.node;
+        pace = at.pace;
+        greeting = at.greeting;
+        cooldown = at.cooldown;
+        latest = refl;
+        next = at.next ∙ sym (next_stays e h refl);
+        arrivals = streams_claim n p e h v.arrivals refl (λ j. refl) (λ j. refl) (λ j. refl) at.arrivals;
+        answers = kept;
+        links = links_stay e (λ p. refl) (λ p. refl) (λ p. refl) (λ p. refl);
+        count = count_stays e refl refl;
+        actions = says_nothing e refl refl;
+        right = (right, in_time (as_nanos t) after, at.right);
+      }
+
+  -- a stream goes, and nothing else changes
+  pub goes : (n : ℕ) (t : Duration) (e : Happening C S) (told : List (Action C)) (answers : AnswersView) →
+      is_new e ≡ false → ((j : ℕ) → came_by j e ≡ None) → ((j : ℕ) → leaves_by j e ≡ (n == j)) →
+      ((j : ℕ) → claim_by j e ≡ None) → answered_by e ≡ [] → calls_by e ≡ [] →
+      ((p : C) → opened_by d p e ≡ None) → ((p : C) → ends_by d p e ≡ false) →
+      ((p : C) → closes_by d p e ≡ false) → ((p : C) → greets_by d p e ≡ false) →
+      is_ended e ≡ false → is_proved e ≡ false → time_by e ≡ Some t → taken_by e ≡ [] →
+      says_by d b.greeting h e ≡ told → IsRight b h e → v.latest ≤ as_nanos t →
+      AreKept b.pace (as_nanos t) (answered_in h) answers →
+      DriverStandsAt b (e ∷ h) (record v {
+        latest = as_nanos t;
+        arrivals = filter (λ a. not (has_number n a)) v.arrivals;
+        answers = answers;
+        actions = v.actions ++ told;
+      })
+  goes n t e told answers new came leaves claim answered calls opened ends closes greets ended proved time none is right after kept = record {
+    node = subst (λ cs. NodeStandsAt b.made (cs ++ calls_of h) v.node) (sym calls) at.node;
+    pace = at.pace;
+    greeting = at.greeting;
+    cooldown = at.cooldown;
+    latest = sym (ap (λ o. latest_of (found_with o e (last_with time_by h))) time);
+    next = at.next ∙ sym (next_stays e h new);
+    arrivals = streams_leave n e h v.arrivals new came leaves claim at.arrivals;
+    answers = subst (λ t. AreKept b.pace t (answered_in (e ∷ h)) answers)
+        (sym (ap (λ o. latest_of (found_with o e (last_with time_by h))) time))
+        (subst (λ cs. AreKept b.pace (as_nanos t) (cs ++ answered_in h) answers) (sym answered) kept);
+    links = links_stay e opened ends closes greets;
+    count = count_stays e ended proved;
+    actions = says told e none is;
+    right = (right, subst (IsInTime b h) (sym time) (in_time (as_nanos t) after), at.right);
+  }
+
+  -- a stream was proved: it is a link of its peer
+  pub proves : (n : ℕ) (p : C) (t draw : Duration) (node : NodeView C S) (links : List (C × Held)) (answers : AnswersView) →
+      IsRight b h (Happening.Proved n p t draw) → v.latest ≤ as_nanos t →
+      NodeStandsAt b.made (Listen p (as_nanos t) (as_nanos draw) ∷ calls_of h) node →
+      ((q : C) → link_of d.cmp links q ≡ (if is_at (d.cmp p) q then Some (link_with n t) else link_of d.cmp v.links q)) →
+      length links ≡ length v.links + 1 → AreKept b.pace (as_nanos t) (answered_in h) answers →
+      DriverStandsAt b (Happening.Proved n p t draw ∷ h) (record v {
+        node = node;
+        latest = as_nanos t;
+        arrivals = filter (λ a. not (has_number n a)) v.arrivals;
+        answers = answers;
+        links = links;
+        actions = v.actions ++ sent n v.greeting;
+      })
+  proves n p t draw node links answers right after made tied more kept =
+      let e : Happening C S = Happening.Proved n p t draw in record {
+        node = made;
+        pace = at.pace;
+        greeting = at.greeting;
+        cooldown = at.cooldown;
+        latest = refl;
+        next = at.next ∙ sym (next_stays e h refl);
+        arrivals = streams_leave n e h v.arrivals refl (λ j. refl) (λ j. refl) (λ j. refl) at.arrivals;
+        answers = kept;
+        links = λ q. tied q ∙ ap (λ o. if is_at (d.cmp p) q then Some (link_with n t) else o) (at.links q)
+            ∙ sym (link_opens d q p n t draw h);
+        count = let ended = one_more is_ended e h false refl in let proved = one_more is_proved e h true refl in
+            let before = at.count in grind (arith);
+        actions = says (sent n v.greeting) e refl
+            (ap (sent n) (sym at.greeting));
+        right = (right, in_time (as_nanos t) after, at.right);
+      }
+
+  -- a link ended
+  pub ends : (n : ℕ) (p : C) (t : Duration) (node : NodeView C S) (links : List (C × Held)) →
+      IsLinkOf b h n p → v.latest ≤ as_nanos t → NodeStandsAt b.made (Release p ∷ calls_of h) node →
+      ((q : C) → link_of d.cmp links q ≡ (if is_at (d.cmp p) q then None else link_of d.cmp v.links q)) →
+      length links + 1 ≡ length v.links →
+      DriverStandsAt b (Happening.Ended n p t ∷ h) (record v {
+        node = node;
+        latest = as_nanos t;
+        links = links;
+        actions = v.actions ++ parted p (link_of d.cmp v.links p);
+      })
+  ends n p t node links right after made tied less = let e : Happening C S = Happening.Ended n p t in record {
+    node = made;
+    pace = at.pace;
+    greeting = at.greeting;
+    cooldown = at.cooldown;
+    latest = refl;
+    next = at.next ∙ sym (next_stays e h refl);
+    arrivals = streams_stay e h v.arrivals refl (λ j. refl) (λ j. refl) (λ j. refl) at.arrivals;
+    answers = answers_later (as_nanos t) after;
+    links = λ q. tied q ∙ ap (λ o. if is_at (d.cmp p) q then None else o) (at.links q)
+        ∙ sym (link_later d q e h refl ∙ ended_link (is_at (d.cmp p) q) (link_at d q h));
+    count = let ended = one_more is_ended e h true refl in let proved = one_more is_proved e h false refl in
+        let before = at.count in grind (arith);
+    actions = says (parted p (link_of d.cmp v.links p)) e refl (ap (parted p) (sym (at.links p)));
+    right = (right, in_time (as_nanos t) after, at.right);
+  }
+
+  -- links are closed
+  links_closed : (e : Happening C S) (links : List (C × Held)) (q : C) (b : Bool) → opened_by d q e ≡ None →
+      ends_by d q e ≡ false → closes_by d q e ≡ b → greets_by d q e ≡ false →
+      link_of d.cmp links q ≡ (if b then option_map closed (link_of d.cmp v.links q) else link_of d.cmp v.links q) →
+      link_of d.cmp links q ≡ link_at d q (e ∷ h)
+  links_closed e links q b opened ends closes greets tied = tied
+      ∙ ap (λ o. if b then option_map closed o else o) (at.links q) ∙ closed_after b (link_at d q h)
+      ∙ sym (link_later d q e h opened
+      ∙ ap (λ x. link_after x (closes_by d q e) (greets_by d q e) (link_at d q h)) ends
+      ∙ ap (λ x. link_after false x (greets_by d q e) (link_at d q h)) closes
+      ∙ ap (λ x. link_after false b x (link_at d q h)) greets)
+
+  -- a set came that was accepted
+  pub tears : (t : Duration) (index : ℕ) (primary secondary torn : List C) (node : NodeView C S) (links : List (C × Held)) (told : List (Action C)) →
+      IsRight b h (Happening.SetCame t index primary secondary torn) → v.latest ≤ as_nanos t →
+      NodeStandsAt b.made (Track index primary secondary ∷ calls_of h) node →
+      ((q : C) → link_of d.cmp links q ≡ (if has_key d.cmp torn q then option_map closed (link_of d.cmp v.links q) else link_of d.cmp v.links q)) →
+      length links ≡ length v.links → told ≡ shut_all d.cmp torn (λ p. link_of d.cmp v.links p) →
+      DriverStandsAt b (Happening.SetCame t index primary secondary torn ∷ h) (record v {
+        node = node;
+        latest = as_nanos t;
+        links = links;
+        actions = v.actions ++ told;
+      })
+  tears t index primary secondary torn node links told right after made tied same is =
+      let e : Happening C S = Happening.SetCame t index primary secondary torn in record {
+        node = made;
+        pace = at.pace;
+        greeting = at.greeting;
+        cooldown = at.cooldown;
+        latest = refl;
+        next = at.next ∙ sym (next_stays e h refl);
+        arrivals = streams_stay e h v.arrivals refl (λ j. refl) (λ j. refl) (λ j. refl) at.arrivals;
+        answers = answers_later (as_nanos t) after;
+        links = λ q. links_closed e links q (has_key d.cmp torn q) refl refl refl refl (tied q);
+        count = ap (λ k. k + count_by is_ended (e ∷ h)) same ∙ count_stays e refl refl;
+        actions = says told e refl (sym (is ∙ ap (shut_all d.cmp torn) (λ i p. at.links p i)));
+        right = (right, in_time (as_nanos t) after, at.right);
+      }
+
+  -- a link is closed, since it is late
+  pub lapses : (n : ℕ) (p : C) (t : Duration) (links : List (C × Held)) →
+      IsRight b h (Happening.LinkLate n p t) → v.latest ≤ as_nanos t →
+      ((q : C) → link_of d.cmp links q ≡ (if is_at (d.cmp p) q then option_map closed (link_of d.cmp v.links q) else link_of d.cmp v.links q)) →
+      length links ≡ length v.links →
+      DriverStandsAt b (Happening.LinkLate n p t ∷ h) (record v {
+        latest = as_nanos t;
+        links = links;
+        actions = v.actions ++ shut p why.Slow (link_of d.cmp v.links p);
+      })
+  lapses n p t links right after tied same = let e : Happening C S = Happening.LinkLate n p t in record {
+    node = at.node;
+    pace = at.pace;
+    greeting = at.greeting;
+    cooldown = at.cooldown;
+    latest = refl;
+    next = at.next ∙ sym (next_stays e h refl);
+    arrivals = streams_stay e h v.arrivals refl (λ j. refl) (λ j. refl) (λ j. refl) at.arrivals;
+    answers = answers_later (as_nanos t) after;
+    links = λ q. links_closed e links q (is_at (d.cmp p) q) refl refl refl refl (tied q);
+    count = ap (λ k. k + count_by is_ended (e ∷ h)) same ∙ count_stays e refl refl;
+    actions = says (shut p why.Slow (link_of d.cmp v.links p)) e refl (ap (shut p why.Slow) (sym (at.links p)));
+    right = (right, in_time (as_nanos t) after, at.right);
+  }
+
+  -- time passed
+  pub passed : (t : Duration) (node : NodeView C S) → v.latest ≤ as_nanos t →
+      NodeStandsAt b.made (UnblockExpired (as_nanos t) ∷ ForgetCooled (as_nanos t) ∷ calls_of h) node →
+      DriverStandsAt b (Happening.Passed t ∷ h) (record v { node = node; latest = as_nanos t })
+  passed t node after made = let e : Happening C S = Happening.Passed t in record {
+    node = made;
+    pace = at.pace;
+    greeting = at.greeting;
+    cooldown = at.cooldown;
+    latest = refl;
+    next = at.next ∙ sym (next_stays e h refl);
+    arrivals = streams_stay e h v.arrivals refl (λ j. refl) (λ j. refl) (λ j. refl) at.arrivals;
+    answers = answers_later (as_nanos t) after;
+    links = links_stay e (λ p. refl) (λ p. refl) (λ p. refl) (λ p. refl);
+    count = count_stays e refl refl;
+    actions = says_nothing e refl refl;
+    right = (tt, in_time (as_nanos t) after, at.right);
+  }
+
+  -- without a time, the latest stays
+  latest_stays : (e : Happening C S) → time_by e ≡ None → latest_at h ≡ latest_at (e ∷ h)
+  latest_stays e none = go (last_with time_by h) ∙ sym (ap (λ o. latest_of (found_with o e (last_with time_by h))) none)
+    where
+      go : (found : Option (Duration × List (Happening C S))) → latest_of found ≡ latest_of (found_with None e found)
+      go None = refl
+      go (Some found) = refl
+
+  -- a set came that wasn't accepted
+  pub stale : (index : ℕ) (primary secondary : List C) (node : NodeView C S) →
+      IsRight b h (Happening.StaleSetCame index primary secondary) →
+      NodeStandsAt b.made (Track index primary secondary ∷ calls_of h) node →
+      DriverStandsAt b (Happening.StaleSetCame index primary secondary ∷ h) (record v { node = node })
+  stale index primary secondary node right made =
+      let e : Happening C S = Happening.StaleSetCame index primary secondary in record {
+        node = made;
+        pace = at.pace;
+        greeting = at.greeting;
+        cooldown = at.cooldown;
+        latest = at.latest ∙ latest_stays e refl;
+        next = at.next ∙ sym (next_stays e h refl);
+        arrivals = streams_stay e h v.arrivals refl (λ j. refl) (λ j. refl) (λ j. refl) at.arrivals;
+        answers = subst (λ t. AreKept b.pace t (answered_in h) v.answers) (latest_stays e refl) at.answers;
+        links = links_stay e (λ p. refl) (λ p. refl) (λ p. refl) (λ p. refl);
+        count = count_stays e refl refl;
+        actions = says_nothing e refl refl;
+        right = (right, tt, at.right);
+      }
+
+  -- the host took an action
+  pub takes : (a : Action C) (later : List (Action C)) → v.actions ≡ a ∷ later →
+      DriverStandsAt b (Happening.Taken a ∷ h) (record v { actions = later })
+  takes a later is = let e : Happening C S = Happening.Taken a in record {
+    node = at.node;
+    pace = at.pace;
+    greeting = at.greeting;
+    cooldown = at.cooldown;
+    latest = at.latest ∙ latest_stays e refl;
+    next = at.next ∙ sym (next_stays e h refl);
+    arrivals = streams_stay e h v.arrivals refl (λ j. refl) (λ j. refl) (λ j. refl) at.arrivals;
+    answers = subst (λ t. AreKept b.pace t (answered_in h) v.answers) (latest_stays e refl) at.answers;
+    links = links_stay e (λ p. refl) (λ p. refl) (λ p. refl) (λ p. refl);
+    count = count_stays e refl refl;
+    actions = took_one (taken h) later (said d b.greeting h) a (ap (λ xs. taken h ++ xs) (sym is) ∙ at.actions);
+    right = ((later, ap (λ xs. taken h ++ xs) (sym is) ∙ at.actions), tt, at.right);
+  }

@@ -1,0 +1,28 @@
+use Rattle.std.proofs.Common.{◌∙◌, ap, subst, option_map}
+use Rattle.std.specs.Duration.{as_nanos}
+use Rattle.p2p_tracker.specs.Lists.{IsLeastOf}
+use Rattle.p2p_tracker.specs.Seen.{DirectoryView, unblock_of}
+use Rattle.p2p_driver.specs.Timers.{earlier, held_moment, IsNextTimeout}
+use Rattle.p2p_driver.proofs.driver.Driver.next_timeout.Goals as goal
+
+pub returns : goal.returns
+returns g c =
+    let stream = c.next_late-stream.result in
+    let link = c.next_late-link.result in
+    let block = option_map as_nanos c.next_unblock-block.result in
+    subst (λ v. IsNextTimeout g.C.Ord.cmp v (option_map as_nanos c.earlier-3.result)) c.self.view_is (record {
+      stream = stream;
+      link = link;
+      block = block;
+      cooldown = option_map as_nanos c.next_cooled-cooldown.result;
+      streams = c.next_late-stream.ensures;
+      links = c.next_late-link.ensures;
+      blocks = subst (λ (d : DirectoryView g.row.C.Denot g.row.C-Signature.Denot). IsLeastOf (unblock_of g.C.Ord.cmp d) block)
+          c.directory.ensures c.next_unblock-block.ensures;
+      cooldowns = c.next_cooled-cooldown.ensures;
+      next_is = c.earlier-3.ensures
+          ∙ ap (λ o. earlier o (option_map as_nanos c.earlier-2.result)) (c.earlier.ensures
+          ∙ ap (λ o. earlier o (option_map as_nanos c.moment-2.result)) c.moment.ensures
+          ∙ ap (λ o. earlier (held_moment stream) o) c.moment-2.ensures)
+          ∙ ap (λ o. earlier (earlier (held_moment stream) (held_moment link)) o) c.earlier-2.ensures;
+    })

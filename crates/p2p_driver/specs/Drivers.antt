@@ -1,0 +1,333 @@
+-- Drivers: what is seen of one, what may be done, and how it stands after what it did.
+use Rattle.std.specs.Prelude.{ℕ, ◌≡◌, ◌+◌, ◌≤◌, ◌<◌, ◌*◌, ◌/◌, ◌%◌, ◌^◌, ◌&&◌, ◌⊎◌, max}
+use Rattle.std.specs.Prelude.{not, nat_lt, Bool, true, false, Result, Ok, Err}
+use Rattle.std.specs.Prelude.{List, [], ◌∷◌, ◌++◌, length, find, Option, Some, None, is_some}
+use Rattle.std.specs.List.{count_by}
+use Rattle.std.specs.Option.{IsSomeAnd}
+use Rattle.std.specs.Duration.{as_nanos}
+use Rattle.std.specs.declared.alloc.AllocError.{AllocError}
+use Rattle.std.specs.declared.cmp.Ordering.{Ordering}
+use Rattle.std.specs.declared.time.Duration.{Duration}
+use Rattle.p2p_discovery.specs.declared.discovery.Payload.TheVariants as payload
+use Rattle.p2p_discovery.specs.Payload.{payload_spelling, payload_at}
+use Rattle.p2p_tracker.specs.Calls.{Settings}
+use Rattle.p2p_tracker.specs.Calls.Call.{Track}
+use Rattle.p2p_tracker.specs.Answers.{IsTrackAnswer, may_listen_at, was_taken}
+use Rattle.p2p_directory.specs.Run.{event_of, world_after}
+use Rattle.p2p_directory.specs.Nodes.{NodeView, Made, NodeStandsAt, made_of}
+use Rattle.p2p_directory.specs.Received.{Wire}
+use Rattle.p2p_directory.specs.declared.node.setup.Setup.{Setup}
+use Rattle.p2p_driver.specs.Actions.{ActionsView}
+use Rattle.p2p_driver.specs.Answers.{AnswersView, AreKept, MayAnswer, IsClaimRefusal, roomless}
+use Rattle.p2p_driver.specs.Arrivals.{has_number, is_unclaimed, deadline_of, room_of}
+use Rattle.p2p_driver.specs.Links.{link_of, needs}
+use Rattle.p2p_driver.specs.Steps.{is_claim_of, no_proof_of}
+use Rattle.p2p_driver.specs.Happenings.{Happening, latest_at, calls_of, next_at, stream_at}
+use Rattle.p2p_driver.specs.Happenings.{answered_in, link_count, is_proved, is_ended, link_at}
+use Rattle.p2p_driver.specs.Happenings.{said, taken, time_by}
+use Rattle.p2p_driver.specs.declared.actions.Action.{Action}
+use Rattle.p2p_driver.specs.declared.actions.Why.{Why}
+use Rattle.p2p_driver.specs.declared.arrivals.Arrival.{Arrival}
+use Rattle.p2p_driver.specs.declared.arrivals.Room.{Room}
+use Rattle.p2p_driver.specs.declared.arrivals.Room.TheVariants as room
+use Rattle.p2p_driver.specs.declared.links.Held.{Held}
+use Rattle.p2p_driver.specs.declared.links.Phase.TheVariants as phase
+use Rattle.p2p_driver.specs.declared.origin.Origin.{Origin}
+use Rattle.p2p_driver.specs.declared.pace.Pace.{Pace}
+
+-- WHAT IS SEEN of a driver: its node, settings, own greeting and cooldown, the latest time, the
+-- number of the next stream, the streams that aren't proved, the claims that were answered, the
+-- links of peers, and the actions that the host hasn't taken
+pub record DriverView (C S : Type 0) : Type 0 where
+  pub node : NodeView C S
+  pub pace : Pace
+  pub greeting : List ℕ
+  pub cooldown : ℕ
+  pub latest : ℕ
+  pub next : ℕ
+  pub arrivals : List (Arrival C)
+  pub answers : AnswersView
+  pub links : List (C × Held)
+  pub actions : List (Action C)
+
+-- .. of its parts: of the node all but slots, of the claims all but the room for more
+abbrev pub seen : {C S : Type 0} → NodeView C S → Pace → List ℕ → ℕ → ℕ → ℕ → List (Arrival C) →
+    AnswersView → List (C × Held) → List (Action C) → DriverView C S
+seen node pace greeting cooldown latest next arrivals answers links actions = record {
+  node = record node { slots = [] };
+  pace = pace;
+  greeting = greeting;
+  cooldown = cooldown;
+  latest = latest;
+  next = next;
+  arrivals = arrivals;
+  answers = roomless answers;
+  links = links;
+  actions = actions;
+}
+
+-- room is promised for what may have to be said at any time: that each stream is closed, and what
+-- each link needs; and for the claim of each stream that hasn't claimed
+pub record HasRoom {C : Type 0} (arrivals : List (Arrival C)) (answers : AnswersView)
+    (links : List (C × Held)) (actions : ActionsView C) : Type 0 where
+  pub actions_fit : length arrivals + needs links ≤ actions.room
+  pub answers_fit : count_by is_unclaimed arrivals ≤ answers.room
+
+-- WHAT IT IS MADE FROM: that of its node, its settings, and the frame of its own greeting
+pub record Base (C S : Type 0) : Type 0 where
+  pub made : Made C S
+  pub pace : Pace
+  pub greeting : List ℕ
+
+-- how frames are read and spelled, and which signatures are right, by how keys and signatures are
+abbrev pub wire_with : {C S : Type 0} → (C → List ℕ → List ℕ → S → Bool) → (C → List ℕ) →
+    (S → List ℕ) → ℕ → (List ℕ → Option C) → ℕ → (List ℕ → Option S) → Wire C S
+wire_with verifies spelled spelled_signature size value size_signature value_signature = record {
+  spelling = payload_spelling spelled spelled_signature;
+  reading = payload_at size value size_signature value_signature;
+  verifies = verifies;
+}
+
+-- .. as a caller gives it
+abbrev pub base_of : {C S : Type 0} → (C → C → Ordering) → Wire C S → Setup C S → Pace → Base C S
+base_of cmp wire given pace = record {
+  made = made_of cmp given;
+  pace = pace;
+  greeting = wire.spelling (payload.Greeting given.myself);
+}
+
+-- these streams have numbers that rise, above the first and below the last
+abbrev pub Rise : {C : Type 0} → ℕ → List (Arrival C) → ℕ → Type 0
+Rise first [] last = first < last
+Rise first (a ∷ arrivals) last = (first < a.number) × Rise a.number arrivals last
+
+-- these are the streams that came and haven't left, in the order in which they came
+pub record AreStreams {C S : Type 0} (h : List (Happening C S)) (arrivals : List (Arrival C)) :
+    Type 0 where
+  pub rise : Rise 0 arrivals (next_at h)
+  pub each : (n : ℕ) → find (has_number n) arrivals ≡ stream_at n h
+
+-- a stream has said that it is p's
+abbrev pub is_claim_by : {C : Type 0} → (C → C → Ordering) → C → Option (Arrival C) → Bool
+is_claim_by cmp p None = false
+is_claim_by cmp p (Some a) = is_claim_of cmp p a.claim
+
+-- WHAT MAY BE DONE
+module _ {C S : Type 0} (b : Base C S) where
+  abbrev pub s : Settings C S
+  s = b.made.directory
+
+  -- the link of p, if it has one
+  abbrev pub link : C → List (Happening C S) → Option Held
+  link p h = link_at s p h
+
+  -- another link has a place
+  abbrev pub has_place : List (Happening C S) → Bool
+  has_place h = nat_lt (link_count h) b.pace.links && nat_lt (link_count h) b.pace.inbound
+
+  -- p may come in at t: there is a place, it has no link, and a listen would be granted
+  abbrev pub may_come : List (Happening C S) → C → ℕ → Bool
+  may_come h p t = has_place h && (not (is_some (link p h))
+      && may_listen_at s (world_after s (calls_of h)) p t)
+
+  -- stream n hasn't said whose it is
+  abbrev pub IsUnclaimed : List (Happening C S) → ℕ → Type 0
+  IsUnclaimed h n = IsSomeAnd (stream_at n h) (λ a. a.claim ≡ None)
+
+  -- it is of this origin
+  abbrev pub IsFrom : List (Happening C S) → ℕ → ℕ → Type 0
+  IsFrom h n origin = IsSomeAnd (stream_at n h) (λ a. a.origin.0 ≡ origin)
+
+  -- stream n has said that it is p's
+  abbrev pub is_claimed : List (Happening C S) → ℕ → C → Bool
+  is_claimed h n p = is_claim_by s.cmp p (stream_at n h)
+
+  -- link n is p's
+  abbrev pub IsLinkOf : List (Happening C S) → ℕ → C → Type 0
+  IsLinkOf h n p = IsSomeAnd (link p h) (λ held. held.number ≡ n)
+
+  -- why a claim is refused: the peer may not come in, or too many were answered
+  abbrev pub IsRefusal : List (Happening C S) → ℕ → C → ℕ → Why → Type 0
+  IsRefusal h n p t why = (origin : Origin) × IsFrom h n origin.0
+      × IsClaimRefusal b.pace t origin.0 (answered_in h) (may_come h p t) why
+
+  -- why a stream that is proved doesn't become a link, if it doesn't: it has claimed to be
+  -- another's, or nobody's, or the peer may not come in
+  abbrev pub no_proof : List (Happening C S) → ℕ → C → ℕ → Option Why
+  no_proof h n p t = no_proof_of (is_claimed h n p) (may_come h p t)
+
+  -- what may be done after a history, and when
+  abbrev pub IsRight : List (Happening C S) → Happening C S → Type 0
+  IsRight h (Happening.Arrived n origin t space) = (n ≡ next_at h) × (¬ (space ≡ room.None))
+      × ((arrivals : List (Arrival C)) × AreStreams h arrivals
+      × (room_of b.pace (as_nanos t) arrivals origin ≡ space))
+  IsRight h (Happening.Claimed n p origin t) = IsUnclaimed h n × IsFrom h n origin.0
+      × (may_come h p (as_nanos t) ≡ true)
+      × MayAnswer b.pace (as_nanos t) origin.0 (answered_in h)
+  IsRight h (Happening.Refused n p t why) = IsUnclaimed h n × IsRefusal h n p (as_nanos t) why
+  IsRight h (Happening.Proved n p t draw) = (is_claimed h n p ≡ true)
+      × (may_come h p (as_nanos t) ≡ true)
+  IsRight h (Happening.Unproved n p t why) = (is_some (stream_at n h) ≡ true)
+      × (no_proof h n p (as_nanos t) ≡ Some why)
+  IsRight h (Happening.Left n t) = is_some (stream_at n h) ≡ true
+  IsRight h (Happening.Ended n p t) = IsLinkOf h n p
+  IsRight h (Happening.SetCame t index primary secondary torn) =
+      let c = Track index primary secondary in
+      (length primary ≤ b.made.limits.max_bit_vec)
+      × IsTrackAnswer s (event_of s (calls_of h) c) (world_after s (calls_of h))
+      (world_after s (c ∷ calls_of h)) (Some torn)
+  IsRight h (Happening.StaleSetCame index primary secondary) =
+      let c = Track index primary secondary in
+      (length primary ≤ b.made.limits.max_bit_vec)
+      × IsTrackAnswer s (event_of s (calls_of h) c) (world_after s (calls_of h))
+      (world_after s (c ∷ calls_of h)) None
+  IsRight h (Happening.StreamLate n t) = IsSomeAnd (stream_at n h)
+      (λ a. deadline_of (as_nanos b.pace.first) (as_nanos b.pace.handshake) a ≤ as_nanos t)
+  IsRight h (Happening.LinkLate n p t) = IsSomeAnd (link p h) (λ held. (held.number ≡ n)
+      × (held.phase ≡ phase.Greeting)
+      × (as_nanos held.since + as_nanos b.pace.greeting ≤ as_nanos t))
+  IsRight h (Happening.Passed t) = Unit {0}
+  IsRight h (Happening.Taken action) =
+      (later : List (Action C)) × (taken h ++ action ∷ later ≡ said s b.greeting h)
+
+  -- no time goes back
+  abbrev pub IsInTime : List (Happening C S) → Option Duration → Type 0
+  IsInTime h None = Unit {0}
+  IsInTime h (Some t) = latest_at h ≤ as_nanos t
+
+  -- each of them might be done when it was
+  abbrev pub AreRight : List (Happening C S) → Type 0
+  AreRight [] = Unit {0}
+  AreRight (e ∷ h) = IsRight h e × IsInTime h (time_by e) × AreRight h
+
+  -- HOW IT STANDS after these happenings
+  pub record DriverStandsAt (h : List (Happening C S)) (v : DriverView C S) : Type 0 where
+    pub node : NodeStandsAt b.made (calls_of h) v.node
+    pub pace : v.pace ≡ b.pace
+    pub greeting : v.greeting ≡ b.greeting
+    pub cooldown : v.cooldown ≡ s.cooldown
+    pub latest : v.latest ≡ latest_at h
+    pub next : v.next ≡ next_at h
+    pub arrivals : AreStreams h v.arrivals
+    pub answers : AreKept b.pace (latest_at h) (answered_in h) v.answers
+    pub links : (p : C) → link_of s.cmp v.links p ≡ link p h
+    pub count : length v.links + count_by is_ended h ≡ count_by is_proved h
+    pub actions : taken h ++ v.actions ≡ said s b.greeting h
+    pub right : AreRight h
+
+-- EACH CALL, whatever the driver was made from, and whatever it did before
+
+module _ {C S : Type 0} (cmp : C → C → Ordering) (wire : Wire C S) where
+  -- it stands somewhere: there are a setup, settings and a history
+  pub record DriverStands (v : DriverView C S) : Type 0 where
+    pub given : Setup C S
+    pub pace : Pace
+    pub history : List (Happening C S)
+    pub stands : DriverStandsAt (base_of cmp wire given pace) history v
+
+  -- wherever it stands
+  abbrev pub AtEachHistory : DriverView C S → (Base C S → List (Happening C S) → Type 0) → Type 0
+  AtEachHistory v P = (given : Setup C S) (pace : Pace) (h : List (Happening C S)) →
+      DriverStandsAt (base_of cmp wire given pace) h v → P (base_of cmp wire given pace) h
+
+  -- wherever it stood, it stands after one more happening
+  pub record Does (e : Happening C S) (v v2 : DriverView C S) : Type 0 where
+    pub goes : (given : Setup C S) (pace : Pace) (h : List (Happening C S)) →
+        DriverStandsAt (base_of cmp wire given pace) h v →
+        DriverStandsAt (base_of cmp wire given pace) (e ∷ h) v2
+
+  -- .. at the later of the latest time and this one
+  abbrev pub DoesAt : ℕ → (Duration → Happening C S) → DriverView C S → DriverView C S → Type 0
+  DoesAt now e v v2 = (t : Duration) × (as_nanos t ≡ max v.latest now) × Does (e t) v v2
+
+  -- a stream came from an origin, and got the next number; not too many actions waited
+  pub record Comes (n origin now : ℕ) (v v2 : DriverView C S) : Type 0 where
+    pub next : n ≡ v.next
+    pub from : Origin
+    pub from_is : from.0 ≡ origin
+    pub space : Room
+    pub few : length v.actions < 4 * v.pace.arrivals
+    pub does : DoesAt now (λ t. Happening.Arrived n from t space) v v2
+
+  -- a set would be accepted
+  abbrev pub MayTrack : ℕ → List C → List C → DriverView C S → Type 0
+  MayTrack index primary secondary v = AtEachHistory v (λ b h.
+      was_taken (event_of b.made.directory (calls_of h) (Track index primary secondary)) ≡ true)
+
+  -- a set came that was accepted, and closes the links of the peers that it tears down
+  abbrev pub TracksAt : ℕ → List C → List C → ℕ → DriverView C S → DriverView C S → Type 0
+  TracksAt index primary secondary now v v2 = (torn : List C)
+      × DoesAt now (λ t. Happening.SetCame t index primary secondary torn) v v2
+
+-- the jitter of a grant by a random word: at most twice the half of the cooldown
+abbrev pub jitter_of : ℕ → ℕ → ℕ
+jitter_of cooldown word = word % (cooldown / 2 * 2 + 1)
+
+-- there is such a stream, and it hasn't said whose it is
+abbrev pub may_claim : {C : Type 0} → Option (Arrival C) → Bool
+may_claim None = false
+may_claim (Some a) = is_unclaimed a
+
+-- there is no room for a stream: its origin has too many, or all places are taken by streams that
+-- came just now; or too many actions wait, or no number is left
+abbrev pub HasNoRoom : {C S : Type 0} → ℕ → ℕ → DriverView C S → Type 0
+HasNoRoom origin now v = ((from : Origin) → from.0 ≡ origin →
+    room_of v.pace (max v.latest now) v.arrivals from ≡ room.None)
+    ⊎ (4 * v.pace.arrivals ≤ length v.actions) ⊎ (2 ^ 64 ≤ v.next + 1)
+
+-- WHAT CALLS ANSWER: v before the call, v2 after it
+module _ {C S : Type 0} (cmp : C → C → Ordering) (wire : Wire C S) where
+  -- by whether there is such a stream that hasn't claimed, and what is answered: it goes on, or
+  -- it's closed, or nothing changes
+  abbrev pub ClaimedBy : Bool → Bool → ℕ → C → ℕ → DriverView C S → DriverView C S → Type 0
+  ClaimedBy true true n p now v v2 = (origin : Origin)
+      × DoesAt cmp wire now (λ t. Happening.Claimed n p origin t) v v2
+  ClaimedBy true false n p now v v2 = (why : Why)
+      × DoesAt cmp wire now (λ t. Happening.Refused n p t why) v v2
+  ClaimedBy false true n p now v v2 = ⊥
+  ClaimedBy false false n p now v v2 = v2 ≡ v
+
+  -- `claimed`
+  abbrev pub AnswersClaim : ℕ → C → ℕ → Bool → DriverView C S → DriverView C S → Type 0
+  AnswersClaim n p now answer v v2 =
+      ClaimedBy (may_claim (find (has_number n) v.arrivals)) answer n p now v v2
+
+  -- by whether there is such a stream, and what is answered: it is a link, with the word's jitter,
+  -- or it's closed, or nothing changes; memory is wanted only for a link
+  abbrev pub ProvedBy : Bool → Result Bool AllocError → ℕ → C → ℕ → ℕ → DriverView C S →
+      DriverView C S → Type 0
+  ProvedBy true (Ok true) n p word now v v2 = (draw : Duration)
+      × (as_nanos draw ≡ jitter_of v.cooldown word)
+      × DoesAt cmp wire now (λ t. Happening.Proved n p t draw) v v2
+  ProvedBy true (Ok false) n p word now v v2 = (why : Why)
+      × DoesAt cmp wire now (λ t. Happening.Unproved n p t why) v v2
+  ProvedBy true (Err e) n p word now v v2 = (v2 ≡ v) × AtEachHistory cmp wire v
+      (λ b h. no_proof b h n p (max v.latest now) ≡ None)
+  ProvedBy false (Ok false) n p word now v v2 = v2 ≡ v
+  ProvedBy false _ n p word now v v2 = ⊥
+
+  -- `proved`
+  abbrev pub AnswersProof : ℕ → C → ℕ → ℕ → Result Bool AllocError → DriverView C S →
+      DriverView C S → Type 0
+  AnswersProof n p word now answer v v2 =
+      ProvedBy (is_some (find (has_number n) v.arrivals)) answer n p word now v v2
+
+  -- by whose link has the number, if it is one's, whether a stream has, and what is answered
+  abbrev pub EndedBy : Bool → Bool → ℕ → ℕ → DriverView C S → DriverView C S → Type 0
+  EndedBy true true n now v v2 = DoesAt cmp wire now (λ t. Happening.Left n t) v v2
+  EndedBy true false n now v v2 = ⊥
+  EndedBy false true n now v v2 = (p : C)
+      × IsSomeAnd (link_of cmp v.links p) (λ held. held.number ≡ n)
+      × DoesAt cmp wire now (λ t. Happening.Ended n p t) v v2
+  EndedBy false false n now v v2 = (v2 ≡ v)
+      × ((p : C) (held : Held) → link_of cmp v.links p ≡ Some held → held.number ≡ n → ⊥)
+
+  -- `ended`
+  abbrev pub AnswersEnd : ℕ → ℕ → Bool → DriverView C S → DriverView C S → Type 0
+  AnswersEnd n now answer v v2 =
+      EndedBy (is_some (find (has_number n) v.arrivals)) answer n now v v2
+
+  -- `next_action`: the first that waits, or none does
+  abbrev pub AnswersNext : Option (Action C) → DriverView C S → DriverView C S → Type 0
+  AnswersNext None v v2 = (v.actions ≡ []) × (v2 ≡ v)
+  AnswersNext (Some action) v v2 = Does cmp wire (Happening.Taken action) v v2

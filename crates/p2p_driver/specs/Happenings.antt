@@ -1,0 +1,294 @@
+-- What a driver did, and what follows of it by looking back: the calls of its node, the streams,
+-- the links, and what was said. A history is the list of what was done, the newest first.
+use Rattle.std.specs.Prelude.{ℕ, ◌==◌, ◌+◌, ◌-◌, Bool, true, false, if◌then◌else◌, List, [], ◌∷◌}
+use Rattle.std.specs.Prelude.{◌++◌, Option, Some, None, option_map}
+use Rattle.std.specs.List.{list_any, count_by}
+use Rattle.std.specs.BTreeMap.{is_at}
+use Rattle.std.specs.Duration.{as_nanos}
+use Rattle.std.specs.declared.cmp.Ordering.{Ordering}
+use Rattle.std.specs.declared.time.Duration.{Duration}
+use Rattle.p2p_discovery.specs.Ordered.{has_key}
+use Rattle.p2p_tracker.specs.Calls.{Settings, Call}
+use Rattle.p2p_tracker.specs.Calls.Call.{Track, Listen, Release, UnblockExpired, ForgetCooled}
+use Rattle.p2p_tracker.specs.History.{same, last_with}
+use Rattle.p2p_driver.specs.Links.{closed}
+use Rattle.p2p_driver.specs.declared.actions.Action.{Action}
+use Rattle.p2p_driver.specs.declared.actions.Action.TheVariants as action
+use Rattle.p2p_driver.specs.declared.actions.Event.TheVariants as event
+use Rattle.p2p_driver.specs.declared.actions.Why.{Why}
+use Rattle.p2p_driver.specs.declared.actions.Why.TheVariants as why
+use Rattle.p2p_driver.specs.declared.arrivals.Arrival.{Arrival}
+use Rattle.p2p_driver.specs.declared.arrivals.Room.{Room}
+use Rattle.p2p_driver.specs.declared.arrivals.Room.TheVariants as room
+use Rattle.p2p_driver.specs.declared.links.Held.{Held}
+use Rattle.p2p_driver.specs.declared.links.Phase.{Phase}
+use Rattle.p2p_driver.specs.declared.links.Phase.TheVariants as phase
+use Rattle.p2p_driver.specs.declared.origin.Origin.{Origin}
+
+-- what a driver did in one call, or in one part of a call
+pub data Happening (C S : Type 0) : Type 0 where
+  -- a stream came from an origin at t, and got the number n: by what room there was
+  Arrived : (n : ℕ) (origin : Origin) (t : Duration) (space : Room) → Happening C S
+  -- stream n said at t that it is p's, and goes on
+  Claimed : (n : ℕ) (p : C) (origin : Origin) (t : Duration) → Happening C S
+  -- .. or it is closed for this
+  Refused : (n : ℕ) (p : C) (t : Duration) (why : Why) → Happening C S
+  -- stream n was proved at t to be p's, and p is reserved: the stream is a link of p then
+  Proved : (n : ℕ) (p : C) (t draw : Duration) → Happening C S
+  -- .. or it is closed for this
+  Unproved : (n : ℕ) (p : C) (t : Duration) (why : Why) → Happening C S
+  -- stream n ended before it was proved
+  Left : (n : ℕ) (t : Duration) → Happening C S
+  -- link n of p ended, and p is released
+  Ended : (n : ℕ) (p : C) (t : Duration) → Happening C S
+  -- a set came at t that was accepted, and tears down these peers
+  SetCame : (t : Duration) (index : ℕ) (primary secondary torn : List C) → Happening C S
+  -- a set came that was not accepted
+  StaleSetCame : (index : ℕ) (primary secondary : List C) → Happening C S
+  -- stream n is late at t
+  StreamLate : (n : ℕ) (t : Duration) → Happening C S
+  -- link n of p is late at t
+  LinkLate : (n : ℕ) (p : C) (t : Duration) → Happening C S
+  -- what ends by t ended: cooldowns and blocks
+  Passed : (t : Duration) → Happening C S
+  -- the host took an action
+  Taken : (action : Action C) → Happening C S
+
+-- the stream gave way, by the room that there was for another
+abbrev pub gave_way : ℕ → Room → Bool
+gave_way n (room.Of m) = m == n
+gave_way n _ = false
+
+module _ {C S : Type 0} where
+  -- WHEN
+
+  -- when it was, if that is told
+  abbrev pub time_by : Happening C S → Option Duration
+  time_by (Happening.Arrived n origin t space) = Some t
+  time_by (Happening.Claimed n p origin t) = Some t
+  time_by (Happening.Refused n p t why) = Some t
+  time_by (Happening.Proved n p t draw) = Some t
+  time_by (Happening.Unproved n p t why) = Some t
+  time_by (Happening.Left n t) = Some t
+  time_by (Happening.Ended n p t) = Some t
+  time_by (Happening.SetCame t index primary secondary torn) = Some t
+  time_by (Happening.StaleSetCame index primary secondary) = None
+  time_by (Happening.StreamLate n t) = Some t
+  time_by (Happening.LinkLate n p t) = Some t
+  time_by (Happening.Passed t) = Some t
+  time_by (Happening.Taken action) = None
+
+  -- the latest time, in nanoseconds: that of the newest that has one
+  abbrev pub latest_of : Option (Duration × List (Happening C S)) → ℕ
+  latest_of None = 0
+  latest_of (Some found) = as_nanos found.0
+
+  abbrev pub latest_at : List (Happening C S) → ℕ
+  latest_at h = latest_of (last_with time_by h)
+
+  -- THE CALLS OF THE NODE
+
+  -- what was called of the node, the newest call first
+  abbrev pub calls_by : Happening C S → List (Call C S)
+  calls_by (Happening.Proved n p t draw) = Listen p (as_nanos t) (as_nanos draw) ∷ []
+  calls_by (Happening.Ended n p t) = Release p ∷ []
+  calls_by (Happening.SetCame t index primary secondary torn) = Track index primary secondary ∷ []
+  calls_by (Happening.StaleSetCame index primary secondary) = Track index primary secondary ∷ []
+  calls_by (Happening.Passed t) = UnblockExpired (as_nanos t) ∷ ForgetCooled (as_nanos t) ∷ []
+  calls_by _ = []
+
+  abbrev pub calls_of : List (Happening C S) → List (Call C S)
+  calls_of [] = []
+  calls_of (e ∷ h) = calls_by e ++ calls_of h
+
+  -- STREAMS THAT AREN'T PROVED
+
+  -- it is a stream that came
+  abbrev pub is_new : Happening C S → Bool
+  is_new (Happening.Arrived n origin t space) = true
+  is_new _ = false
+
+  -- the number of the next stream: they rise from 1
+  abbrev pub next_at : List (Happening C S) → ℕ
+  next_at h = count_by is_new h + 1
+
+  -- by it stream n came: from where, and when
+  abbrev pub came_by : ℕ → Happening C S → Option (Origin × Duration)
+  came_by n (Happening.Arrived m origin t space) = if m == n then Some (origin, t) else None
+  came_by n _ = None
+
+  -- by it stream n is no unproved stream any more
+  abbrev pub leaves_by : ℕ → Happening C S → Bool
+  leaves_by n (Happening.Arrived m origin t space) = gave_way n space
+  leaves_by n (Happening.Refused m p t why) = m == n
+  leaves_by n (Happening.Proved m p t draw) = m == n
+  leaves_by n (Happening.Unproved m p t why) = m == n
+  leaves_by n (Happening.Left m t) = m == n
+  leaves_by n (Happening.StreamLate m t) = m == n
+  leaves_by n _ = false
+
+  -- whose it says that it is
+  abbrev pub claim_by : ℕ → Happening C S → Option C
+  claim_by n (Happening.Claimed m p origin t) = if m == n then Some p else None
+  claim_by n _ = None
+
+  -- whose stream n says that it is, if it has said so
+  abbrev pub claim_in : ℕ → List (Happening C S) → Option C
+  claim_in n since = option_map (λ found. found.0) (last_with (claim_by n) since)
+
+  -- stream n, by where it is from and when it came, and what was done since
+  abbrev pub stream_since : ℕ → Option ((Origin × Duration) × List (Happening C S)) →
+      Option (Arrival C)
+  stream_since n None = None
+  stream_since n (Some found) = if list_any (leaves_by n) found.1 then None
+      else Some (record {
+        number = n;
+        origin = found.0.0;
+        came = found.0.1;
+        claim = claim_in n found.1;
+      })
+
+  -- stream n, if it came and hasn't left
+  abbrev pub stream_at : ℕ → List (Happening C S) → Option (Arrival C)
+  stream_at n h = stream_since n (last_with (came_by n) h)
+
+  -- the claims that were answered, of which origin and when, the newest first
+  abbrev pub answered_by : Happening C S → List (ℕ × ℕ)
+  answered_by (Happening.Claimed n p origin t) = (origin.0, as_nanos t) ∷ []
+  answered_by _ = []
+
+  abbrev pub answered_in : List (Happening C S) → List (ℕ × ℕ)
+  answered_in [] = []
+  answered_in (e ∷ h) = answered_by e ++ answered_in h
+
+  -- HOW MANY LINKS THERE ARE
+
+  abbrev pub is_proved : Happening C S → Bool
+  is_proved (Happening.Proved n p t draw) = true
+  is_proved _ = false
+
+  abbrev pub is_ended : Happening C S → Bool
+  is_ended (Happening.Ended n p t) = true
+  is_ended _ = false
+
+  -- as many as were proved, less those that ended
+  abbrev pub link_count : List (Happening C S) → ℕ
+  link_count h = count_by is_proved h - count_by is_ended h
+
+-- how far a link is, by whether it was closed, and whether its peer has greeted
+abbrev pub phase_of : Bool → Bool → Phase
+phase_of true greeted = phase.Closing
+phase_of false true = phase.Open
+phase_of false false = phase.Greeting
+
+module _ {C S : Type 0} (s : Settings C S) where
+  -- LINKS, of which a peer has one at most
+
+  -- by it a link of p began: its number, and when
+  abbrev pub opened_by : C → Happening C S → Option (ℕ × Duration)
+  opened_by p (Happening.Proved n q t draw) = if same s q p then Some (n, t) else None
+  opened_by p _ = None
+
+  -- by it the link of p ended
+  abbrev pub ends_by : C → Happening C S → Bool
+  ends_by p (Happening.Ended n q t) = same s q p
+  ends_by p _ = false
+
+  -- by it the link of p was closed
+  abbrev pub closes_by : C → Happening C S → Bool
+  closes_by p (Happening.SetCame t index primary secondary torn) = has_key s.cmp torn p
+  closes_by p (Happening.LinkLate n q t) = same s q p
+  closes_by p _ = false
+
+  -- by it the peer of the link of p greeted
+  abbrev pub greets_by : C → Happening C S → Bool
+  greets_by p _ = false
+
+  -- the link of p, by its number and when it began, and what was done since
+  abbrev pub link_since : C → Option ((ℕ × Duration) × List (Happening C S)) → Option Held
+  link_since p None = None
+  link_since p (Some found) = if list_any (ends_by p) found.1 then None
+      else Some (record {
+        number = found.0.0;
+        phase = phase_of (list_any (closes_by p) found.1) (list_any (greets_by p) found.1);
+        since = found.0.1;
+      })
+
+  -- the link of p: the one that began last, unless it ended
+  abbrev pub link_at : C → List (Happening C S) → Option Held
+  link_at p h = link_since p (last_with (opened_by p) h)
+
+-- WHAT WAS SAID
+
+module _ {C : Type 0} where
+  -- a stream is closed
+  abbrev pub closing : ℕ → Why → List (Action C)
+  closing n why = action.Close (record { 0 = n }) why ∷ []
+
+  -- a frame is sent on a link
+  abbrev pub sent : ℕ → List ℕ → List (Action C)
+  sent n frame = action.Send (record { 0 = n }) frame ∷ []
+
+  -- by the room that there was for another
+  abbrev pub crowded_out : Room → List (Action C)
+  crowded_out (room.Of n) = closing n why.Crowded
+  crowded_out _ = []
+
+  -- p is told to be down, if it was told to be up
+  abbrev pub downed : ℕ → C → Option Why → Phase → List (Action C)
+  downed n p w phase.Open = action.Told (event.Down (record { 0 = n }) p w) ∷ []
+  downed n p w _ = []
+
+  -- a link in a phase is closed, unless it was
+  abbrev pub shut_in : ℕ → C → Why → Phase → List (Action C)
+  shut_in n p w phase.Closing = []
+  shut_in n p w ph = closing n w ++ downed n p (Some w) ph
+
+  -- the link of p is closed, if it has one
+  abbrev pub shut : C → Why → Option Held → List (Action C)
+  shut p w None = []
+  shut p w (Some held) = shut_in held.number p w held.phase
+
+  -- the link of p ended, if it has one
+  abbrev pub parted : C → Option Held → List (Action C)
+  parted p None = []
+  parted p (Some held) = downed held.number p None held.phase
+
+module _ {C : Type 0} (cmp : C → C → Ordering) where
+  -- what is kept of links, once that of p is closed
+  abbrev pub closed_at : C → (C → Option Held) → C → Option Held
+  closed_at p links q = if is_at (cmp p) q then option_map closed (links q) else links q
+
+  -- the links of these peers are closed, one after the other, since no set has them any more
+  abbrev pub shut_all : List C → (C → Option Held) → List (Action C)
+  shut_all [] links = []
+  shut_all (p ∷ ps) links = shut p why.NoSet (links p) ++ shut_all ps (closed_at p links)
+
+module _ {C S : Type 0} (s : Settings C S) (greeting : List ℕ) where
+  -- what was said in one happening, after these
+  abbrev pub says_by : List (Happening C S) → Happening C S → List (Action C)
+  says_by h (Happening.Arrived n origin t space) = crowded_out space
+  says_by h (Happening.Refused n p t why) = closing n why
+  says_by h (Happening.Proved n p t draw) = sent n greeting
+  says_by h (Happening.Unproved n p t why) = closing n why
+  says_by h (Happening.Ended n p t) = parted p (link_at s p h)
+  says_by h (Happening.SetCame t index primary secondary torn) =
+      shut_all s.cmp torn (λ p. link_at s p h)
+  says_by h (Happening.StreamLate n t) = closing n why.Slow
+  says_by h (Happening.LinkLate n p t) = shut p why.Slow (link_at s p h)
+  says_by h _ = []
+
+  -- all that was said, the oldest first
+  abbrev pub said : List (Happening C S) → List (Action C)
+  said [] = []
+  said (e ∷ h) = said h ++ says_by h e
+
+module _ {C S : Type 0} where
+  -- what the host took, the oldest first
+  abbrev pub taken_by : Happening C S → List (Action C)
+  taken_by (Happening.Taken action) = action ∷ []
+  taken_by _ = []
+
+  abbrev pub taken : List (Happening C S) → List (Action C)
+  taken [] = []
+  taken (e ∷ h) = taken h ++ taken_by e

@@ -1,0 +1,109 @@
+-- The links of a driver: peers with what is kept of the link of each, in the order of their keys.
+-- Moments and durations are nanoseconds.
+use Rattle.std.specs.Prelude.{ℕ, ◌≡◌, ◌≤◌, ◌+◌, ◌&&◌, nat_le, Bool, true, false, List, Option, Some}
+use Rattle.std.specs.Prelude.{None, option_map, unwrap_or, if◌then◌else◌}
+use Rattle.std.specs.Duration.{as_nanos}
+use Rattle.std.specs.List.{sum_by, fold}
+use Rattle.std.specs.Map.{lookup, values_of}
+use Rattle.std.specs.BTreeMap.{is_at}
+use Rattle.std.specs.Option.{IsSomeAnd}
+use Rattle.std.specs.declared.cmp.Ordering.{Ordering}
+use Rattle.std.specs.declared.time.Duration.{Duration}
+use Rattle.p2p_driver.specs.Arrivals.{lesser_of}
+use Rattle.p2p_driver.specs.declared.links.Held.{Held}
+use Rattle.p2p_driver.specs.declared.links.Phase.{Phase}
+use Rattle.p2p_driver.specs.declared.links.Phase.TheVariants.{Greeting, Open, Closing}
+
+-- what is kept of the link of a peer, if it has one
+abbrev pub link_of : {C : Type 0} → (C → C → Ordering) → List (C × Held) → C → Option Held
+link_of cmp links q = lookup (is_at (cmp q)) links
+
+-- how many actions a link still needs room for: its close, and once it is open, that it is down
+abbrev pub need_of : Phase → ℕ
+need_of Greeting = 1
+need_of Open = 2
+need_of Closing = 0
+
+-- .. and a link that there may be
+abbrev pub need_at : Option Held → ℕ
+need_at link = unwrap_or (option_map (λ h. need_of h.phase) link) 0
+
+-- .. and all links together
+abbrev pub needs : {C : Type 0} → List (C × Held) → ℕ
+needs links = sum_by (λ h. need_of h.phase) (values_of links)
+
+-- a link of a peer that hasn't greeted
+abbrev pub link_with : ℕ → Duration → Held
+link_with number since = record { number = number; phase = Greeting; since = since }
+
+-- the phase once the peer has greeted
+abbrev pub greeted : Phase → Phase
+greeted Greeting = Open
+greeted Open = Open
+greeted Closing = Closing
+
+-- what is kept of a link once its peer has greeted
+abbrev pub opened : Held → Held
+opened h = record { number = h.number; phase = greeted h.phase; since = h.since }
+
+-- .. and once it was closed
+abbrev pub closed : Held → Held
+closed h = record { number = h.number; phase = Closing; since = h.since }
+
+-- the peer hasn't greeted yet
+abbrev pub is_greeting : Phase → Bool
+is_greeting Greeting = true
+is_greeting Open = false
+is_greeting Closing = false
+
+-- 1 if there is a link whose peer hasn't greeted, else 0
+abbrev pub one_if_greeting : Option Held → ℕ
+one_if_greeting link =
+    unwrap_or (option_map (λ h. if is_greeting h.phase then 1 else 0) link) 0
+
+-- by when the peer of a link has to greet, if it has so long for it
+abbrev pub due : ℕ → Held → ℕ
+due within h = as_nanos h.since + within
+
+-- the peer of a link greets too late
+abbrev pub is_late : ℕ → ℕ → Held → Bool
+is_late within now h = is_greeting h.phase && nat_le (due within h) now
+
+-- the moment, or that by which the peer of a link has to greet, if that is sooner
+abbrev pub sooner_of : ℕ → Option ℕ → Held → Option ℕ
+sooner_of within next h =
+    if is_greeting h.phase then Some (lesser_of next (due within h)) else next
+
+-- the least of the moment and those by which the peers of these links have to greet
+abbrev pub least_due : ℕ → Option ℕ → List Held → Option ℕ
+least_due within next held = fold (sooner_of within) next held
+
+-- WHAT HOLDS OF ALL LINKS
+module _ {C : Type 0} (cmp : C → C → Ordering) (links : List (C × Held)) where
+  -- two links with one number are of one peer
+  abbrev pub AreNumbered : Type 0
+  AreNumbered = (p q : C) (g h : Held) → link_of cmp links p ≡ Some g →
+      link_of cmp links q ≡ Some h → g.number ≡ h.number → is_at (cmp p) q ≡ true
+
+  -- equal keys are of one peer
+  abbrev pub AreAlike : Type 0
+  AreAlike = (p q : C) → is_at (cmp p) q ≡ true → link_of cmp links p ≡ link_of cmp links q
+
+  -- the peers that are kept by number are those of the links
+  pub record AreInverse (at : ℕ → Option C) : Type 0 where
+    pub forth : (n : ℕ) (p : C) → at n ≡ Some p →
+        IsSomeAnd (link_of cmp links p) (λ h. h.number ≡ n)
+    pub back : (q : C) (h : Held) → link_of cmp links q ≡ Some h →
+        IsSomeAnd (at h.number) (λ p. is_at (cmp p) q ≡ true)
+
+-- WHO GREETS TOO LATE
+module _ {C : Type 0} (cmp : C → C → Ordering) (within : ℕ) (links : List (C × Held)) where
+  -- the least moment by which a peer that hasn't greeted has to, if there is one
+  abbrev pub IsLeastDue : Option ℕ → Type 0
+  IsLeastDue None = (q : C) (h : Held) → link_of cmp links q ≡ Some h →
+      is_greeting h.phase ≡ false
+  IsLeastDue (Some least) =
+      ((q : C) (h : Held) → link_of cmp links q ≡ Some h → is_greeting h.phase ≡ true →
+      least ≤ due within h)
+      × ((q : C) × (h : Held) × (link_of cmp links q ≡ Some h)
+      × (is_greeting h.phase ≡ true) × (due within h ≡ least))

@@ -1,0 +1,177 @@
+//! What a host does next.
+
+ghost use Rattle.std.specs.Prelude.{ℕ, ◌≡◌, ◌≤◌, ◌<◌, ◌+◌, ◌-◌, [], ◌∷◌, ◌++◌, length, None};
+ghost use Rattle.std.specs.Prelude.{OnOk, OnErr};
+ghost use Rattle.std.specs.Option.{option_to_list};
+
+use crate::link::Link;
+use bytes::Bytes;
+use p2p_discovery::codec::CodecError;
+use p2p_discovery::discovery::Error;
+use std::alloc::{AllocError, Global};
+use std::collections::VecDeque;
+use std::marker::Model;
+
+/// What a host does next.
+#[derive(Debug, Drop)]
+pub enum Action<C> {
+    /// It sends the frame on the link.
+    Send {
+        /// On which link.
+        link: Link,
+        /// The bytes that are sent.
+        frame: Bytes,
+    },
+    /// It closes the link, or gives the dial up.
+    Close {
+        /// Which link.
+        link: Link,
+        /// Why.
+        why: Why,
+    },
+    /// It tells the application.
+    Told(Event<C>),
+}
+
+/// What the application is told.
+#[derive(Clone, Copy, Debug, PartialEq, Eq)]
+pub enum Event<C> {
+    /// The link to the peer is up.
+    Up(Link, C),
+    /// The link to the peer, which was up, is no longer: why it was closed, or `None` if it ended.
+    Down(Link, C, Option<Why>),
+    /// The peer is blocked, since it broke a rule.
+    Blocked(C, Breach),
+}
+
+/// Why a link or a stream is closed.
+#[derive(Clone, Copy, Debug, PartialEq, Eq)]
+pub enum Why {
+    /// Others need its place, or too many claims were answered.
+    Crowded,
+    /// A claim, a proof or a greeting came too late.
+    Slow,
+    /// The peer proved as another key than it claimed, or without a claim.
+    WrongKey,
+    /// The peer isn't let in now.
+    NotGranted,
+    /// The peer is in no retained set any more.
+    NoSet,
+    /// The peer is blocked.
+    Blocked,
+    /// The peer's info is of the future.
+    Future,
+    /// The application wants it closed.
+    Application,
+    /// The peer broke a rule.
+    Breach(Breach),
+}
+
+/// Which rule a peer broke.
+#[derive(Clone, Copy, Debug, PartialEq, Eq)]
+pub enum Breach {
+    /// Its first message was no greeting.
+    NoGreeting,
+    /// It greeted with the info of another key.
+    OtherGreeting,
+    /// It greeted a second time.
+    SecondGreeting,
+    /// Its bytes are no message.
+    Codec(CodecError),
+    /// Its message has bits that fit no set.
+    Malformed,
+    /// It sent an info that is refused, or too many.
+    Invalid(Error),
+}
+
+/// The actions that wait, the first in first, and the room that is promised for more of them. A
+/// contract sees both. Actions are added and taken without an allocation, which `reserve` makes
+/// beforehand.
+#[derive(Drop)]
+pub struct Actions<C> {
+    waiting: VecDeque<Action<C>>,
+    promised: usize,
+}
+
+impl<C> Model for Actions<C> {
+    ghost use Rattle.std.specs.Prelude.{◌≤◌, ◌+◌};
+    ghost use Rattle.std.specs.VecDeque.{deque_len, deque_capacity};
+    ghost use Rattle.p2p_driver.specs.Actions.{ActionsView};
+
+    ghost Value = { ActionsView C };
+
+    ghost view = { λ a. record { items = a.waiting.items; room = a.promised } };
+
+    ghost invariant = { λ a. deque_len a.waiting + a.promised ≤ deque_capacity a.waiting };
+}
+
+impl<C> Actions<C> {
+    /// No action waits, and no room is promised. It doesn't allocate.
+    pub fn new(alloc: Global) -> Self
+        ensures items { result.items ≡ [] }
+        ensures room { result.room ≡ 0 }
+    {
+        Actions {
+            waiting: VecDeque::new(alloc),
+            promised: 0,
+        }
+    }
+
+    /// Promises room for so many more actions. Those that wait stay.
+    ///
+    /// # Errors
+    ///
+    /// `AllocError` if an allocation fails. Nothing changes then.
+    ///
+    /// # Cost
+    ///
+    /// The actions that wait may be moved once.
+    pub fn reserve(&mut self, count: usize) -> Result<(), AllocError>
+        ensures items { OnOk result (self.new.items ≡ self.old.items) }
+        ensures room { OnOk result (self.new.room ≡ self.old.room + count) }
+        ensures err { OnErr result (self.new ≡ self.old) }
+    {
+        let Some(promised) = self.promised.checked_add(count) else {
+            return Err(AllocError);
+        };
+        self.waiting.reserve(promised)?;
+        self.promised = promised;
+        Ok(())
+    }
+
+    /// Adds an action, the last one, in room that was promised for it. It doesn't allocate.
+    pub fn push(&mut self, action: Action<C>)
+        requires { 0 < self.old.room }
+        ensures items { self.new.items ≡ self.old.items ++ action ∷ [] }
+        ensures room { self.new.room + 1 ≡ self.old.room }
+    {
+        self.promised -= 1;
+        self.waiting.push_back_reserved(action);
+    }
+
+    /// Gives back the room for so many actions, which isn't needed. Those that wait stay.
+    pub fn give_back(&mut self, count: usize)
+        requires { count ≤ self.old.room }
+        ensures items { self.new.items ≡ self.old.items }
+        ensures room { self.new.room + count ≡ self.old.room }
+    {
+        self.promised -= count;
+    }
+
+    /// Takes the first action, or returns `None` if none waits. The room that is promised stays. It
+    /// doesn't allocate.
+    pub fn pop(&mut self) -> Option<Action<C>>
+        ensures items { option_to_list result ++ self.new.items ≡ self.old.items }
+        ensures none { result ≡ None → self.old.items ≡ [] }
+        ensures room { self.new.room ≡ self.old.room }
+    {
+        self.waiting.pop_front()
+    }
+
+    /// How many actions wait.
+    pub fn len(&self) -> usize
+        ensures { result ≡ length self.now.items }
+    {
+        self.waiting.len()
+    }
+}

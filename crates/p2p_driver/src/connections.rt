@@ -1,0 +1,220 @@
+//! The links of a driver with what its node holds of their peers, and what is said when they begin
+//! and end. Room for what has to be said when a link ends is promised when it begins.
+
+ghost use Rattle.std.specs.Prelude.{◌≡◌, ◌≤◌, ◌+◌, ◌++◌, [], ◌∷◌, None, Some, OnOk, OnErr, length};
+ghost use Rattle.std.specs.Prelude.{if◌then◌else◌, is_some, option_map, true};
+ghost use Rattle.std.specs.BTreeMap.{is_at};
+ghost use Rattle.std.specs.Duration.{as_nanos};
+ghost use Rattle.p2p_discovery.specs.Ordered.{has_key};
+ghost use Rattle.p2p_tracker.specs.Calls.Call.{Listen, Release};
+ghost use Rattle.p2p_tracker.specs.Answers.{may_listen_at};
+ghost use Rattle.p2p_directory.specs.Nodes.{AtEach, IsSame};
+ghost use Rattle.p2p_directory.specs.Run.{world_after};
+ghost use Rattle.p2p_driver.specs.Steps.{comes_by, is_claim_of, no_proof_of};
+ghost use Rattle.p2p_driver.specs.Happenings.{shut, shut_all, shut_in, closed_at};
+ghost use Rattle.p2p_driver.specs.Happenings.{parted, downed, sent};
+ghost use Rattle.p2p_driver.specs.Links.{link_of, link_with, need_of, need_at, needs, closed};
+ghost use Rattle.p2p_driver.specs.Steps.{IsBusy, Makes, MayListen};
+ghost use Rattle.p2p_driver.specs.declared.links.Held.{Held};
+
+use crate::actions::{Action, Actions, Event, Why};
+use crate::link::Link;
+use crate::links::{Held, Links, Phase};
+use crate::pace::Pace;
+use crate::steps;
+use bytes::Bytes;
+use p2p_directory::node::Node;
+use p2p_discovery::codec::PublicKey;
+use std::alloc::AllocError;
+use std::time::Duration;
+
+// Reserves a peer that may come, keeps its link, and sends the greeting on it.
+pub(crate) fn begin<C: PublicKey>(
+    node: &mut Node<C>,
+    links: &mut Links<C>,
+    actions: &mut Actions<C>,
+    greeting: &Bytes,
+    peer: C,
+    number: u64,
+    now: Duration,
+    draw: Duration,
+) -> Result<(), AllocError>
+    requires unlinked { link_of C.cmp links.old peer ≡ None }
+    requires unused { (q : C) (held : Held) → link_of C.cmp links.old q ≡ Some held →
+        held.number ≡ number → ⊥ }
+    requires may { MayListen C.cmp peer (as_nanos now) node.old }
+    ensures made { OnOk result (Makes C.cmp
+        (Listen peer (as_nanos now) (as_nanos draw) ∷ []) node.old node.new) }
+    ensures links { OnOk result ((q : C) → link_of C.cmp links.new q ≡
+        (if is_at (C.cmp peer) q then Some (link_with number now) else link_of C.cmp links.old q)) }
+    ensures count { OnOk result (length links.new ≡ length links.old + 1) }
+    ensures said { OnOk result (actions.new.items
+        ≡ actions.old.items ++ sent number greeting.now) }
+    ensures needs { OnOk result (needs links.new ≡ needs links.old + 1) }
+    ensures room { actions.new.room ≡ actions.old.room }
+    ensures err { OnErr result (IsSame node.old node.new × (links.new ≡ links.old)
+        × (actions.new.items ≡ actions.old.items)) }
+{
+    let frame = greeting.clone()?;
+    links.put(peer, number, now)?;
+    if actions.reserve(1).is_err() {
+        let _held = links.remove(&peer);
+        return Err(AllocError);
+    }
+    if !steps::listen(node, &peer, now, draw) {
+        let _held = links.remove(&peer);
+        actions.give_back(1);
+        return Err(AllocError);
+    }
+    actions.push(Action::Send {
+        link: Link(number),
+        frame,
+    });
+    Ok(())
+}
+
+// Releases a peer whose link ended. Who was told that it's up is told that it's down.
+pub(crate) fn end<C: PublicKey>(
+    node: &mut Node<C>,
+    links: &mut Links<C>,
+    actions: &mut Actions<C>,
+    peer: &C,
+)
+    requires busy { IsBusy C.cmp peer.now node.old }
+    requires linked { is_some (link_of C.cmp links.old peer.now) ≡ true }
+    requires fit { needs links.old ≤ actions.old.room }
+    ensures made { Makes C.cmp (Release peer.now ∷ []) node.old node.new }
+    ensures links { (q : C) → link_of C.cmp links.new q ≡
+        (if is_at (C.cmp peer.now) q then None else link_of C.cmp links.old q) }
+    ensures count { length links.new + 1 ≡ length links.old }
+    ensures said { actions.new.items
+        ≡ actions.old.items ++ parted peer.now (link_of C.cmp links.old peer.now) }
+    ensures room { needs links.new + actions.old.room ≡ actions.new.room + needs links.old }
+{
+    // For the proof: what a link needs is no more than what all need.
+    links.agrees();
+    steps::release(node, peer);
+    if let Some(held) = links.remove(peer) {
+        tell_end(actions, held, peer);
+    }
+}
+
+// Tells that a link ended, if it was told to be up, and gives back the room that was promised.
+fn tell_end<C: Copy>(actions: &mut Actions<C>, held: Held, peer: &C)
+    requires { need_of held.phase ≤ actions.old.room }
+    ensures said { actions.new.items
+        ≡ actions.old.items ++ downed held.number peer.now None held.phase }
+    ensures room { actions.new.room + need_of held.phase ≡ actions.old.room }
+{
+    match held.phase {
+        Phase::Greeting => actions.give_back(1),
+        Phase::Open => {
+            actions.push(Action::Told(Event::Down(Link(held.number), *peer, None)));
+            actions.give_back(1);
+        }
+        Phase::Closing => {}
+    }
+}
+
+// Closes the link of a peer, if it has one that isn't closed.
+pub(crate) fn shut<C: PublicKey>(links: &mut Links<C>, actions: &mut Actions<C>, peer: &C, why: Why)
+    requires { needs links.old ≤ actions.old.room }
+    ensures links { (q : C) → link_of C.cmp links.new q ≡
+        closed_at C.cmp peer.now (link_of C.cmp links.old) q }
+    ensures count { length links.new ≡ length links.old }
+    ensures said { actions.new.items
+        ≡ actions.old.items ++ shut peer.now why (link_of C.cmp links.old peer.now) }
+    ensures room { needs links.new + actions.old.room ≡ actions.new.room + needs links.old }
+    ensures needs { needs links.new + need_at (link_of C.cmp links.old peer.now) ≡ needs links.old }
+{
+    // For the proof: what a link needs is no more than what all need.
+    links.agrees();
+    if let Some(held) = links.get(peer) {
+        tell_close(actions, held, peer, why);
+    }
+    links.close(peer);
+}
+
+// Tells that a link is closed, unless it was.
+fn tell_close<C: Copy>(actions: &mut Actions<C>, held: Held, peer: &C, why: Why)
+    requires { need_of held.phase ≤ actions.old.room }
+    ensures said { actions.new.items
+        ≡ actions.old.items ++ shut_in held.number peer.now why held.phase }
+    ensures room { actions.new.room + need_of held.phase ≡ actions.old.room }
+{
+    let link = Link(held.number);
+    match held.phase {
+        Phase::Greeting => actions.push(Action::Close { link, why }),
+        Phase::Open => {
+            actions.push(Action::Close { link, why });
+            actions.push(Action::Told(Event::Down(link, *peer, Some(why))));
+        }
+        Phase::Closing => {}
+    }
+}
+
+// Closes the links of these peers, since no set has them any more.
+pub(crate) fn shut_all<C: PublicKey>(links: &mut Links<C>, actions: &mut Actions<C>, peers: &[C])
+    requires { needs links.old ≤ actions.old.room }
+    ensures links { (q : C) → link_of C.cmp links.new q ≡
+        (if has_key C.cmp peers.now q then option_map closed (link_of C.cmp links.old q)
+        else link_of C.cmp links.old q) }
+    ensures count { length links.new ≡ length links.old }
+    ensures said { actions.new.items
+        ≡ actions.old.items ++ shut_all C.cmp peers.now (link_of C.cmp links.old) }
+    ensures room { needs links.new + actions.old.room ≡ actions.new.room + needs links.old }
+{
+    for peer in peers {
+        shut(links, actions, peer, Why::NoSet);
+    }
+}
+
+// Whether a peer may come in: there is a place, it has no link, and a listen would be granted.
+pub(crate) fn may_come<C: PublicKey>(
+    node: &Node<C>,
+    links: &Links<C>,
+    pace: &Pace,
+    peer: &C,
+    now: Duration,
+) -> bool
+    ensures { AtEach C.cmp node.now (λ m calls. result ≡ comes_by C.cmp pace.now links.now peer.now
+        (may_listen_at m.directory (world_after m.directory calls) peer.now (as_nanos now))) }
+{
+    links.len() < pace.links
+        && links.len() < pace.inbound
+        && links.get(peer).is_none()
+        && node.may_listen(peer, now)
+}
+
+// Why a stream that is proved to be of a peer doesn't become a link, if it doesn't: it didn't claim
+// to be that peer's, or the peer may not come in.
+pub(crate) fn no_proof<C: PublicKey>(
+    node: &Node<C>,
+    links: &Links<C>,
+    pace: &Pace,
+    claim: Option<C>,
+    peer: &C,
+    now: Duration,
+) -> Option<Why>
+    ensures { AtEach C.cmp node.now (λ m calls. result ≡ no_proof_of
+        (is_claim_of C.cmp peer.now claim) (comes_by C.cmp pace.now links.now peer.now
+        (may_listen_at m.directory (world_after m.directory calls) peer.now (as_nanos now)))) }
+{
+    if !is_claim_of(claim, peer) {
+        return Some(Why::WrongKey);
+    }
+    if !may_come(node, links, pace, peer, now) {
+        return Some(Why::NotGranted);
+    }
+    None
+}
+
+// Whether a stream has claimed to be the peer's.
+fn is_claim_of<C: Ord + Copy>(claim: Option<C>, peer: &C) -> bool
+    ensures { result ≡ is_claim_of C.cmp peer.now claim }
+{
+    match claim {
+        Some(claimed) => claimed.cmp(peer).is_eq(),
+        None => false,
+    }
+}

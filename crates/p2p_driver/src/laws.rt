@@ -1,0 +1,166 @@
+//! Laws of drivers, over what they did.
+
+ghost use Rattle.std.specs.Prelude.{ℕ, ◌≡◌, ◌≤◌, ◌&&◌, not, if◌then◌else◌, true, List, ◌∷◌, ◌++◌};
+ghost use Rattle.std.specs.Prelude.{◌<◌, ◌+◌, ◌*◌, false, length, map, Some, None, is_some};
+ghost use Rattle.std.specs.Prelude.{option_map};
+ghost use Rattle.std.specs.Duration.{as_nanos};
+ghost use Rattle.std.specs.Int.NonZero.{non_zero_u32_get};
+ghost use Rattle.std.specs.List.{Contains, count_by};
+ghost use Rattle.p2p_discovery.specs.Ordered.{has_key};
+ghost use Rattle.p2p_tracker.specs.History.{is_entitled, same};
+ghost use Rattle.p2p_directory.specs.Held.{held_of};
+ghost use Rattle.p2p_directory.specs.Laws.Grants.{NeverGoBack};
+ghost use Rattle.p2p_directory.specs.Laws.Steps.{is_busy_in};
+ghost use Rattle.p2p_directory.specs.Nodes.{NodeStandsAt};
+ghost use Rattle.p2p_directory.specs.Run.{world_after};
+ghost use Rattle.p2p_driver.specs.Arrivals.{is_of};
+ghost use Rattle.p2p_driver.specs.Happenings.{Happening, calls_of, latest_at, link_count};
+ghost use Rattle.p2p_driver.specs.Happenings.{next_at, stream_at, said, says_by, taken};
+ghost use Rattle.p2p_driver.specs.Happenings.{answered_in};
+ghost use Rattle.p2p_driver.specs.Happenings.Happening.{SetCame, Claimed, Refused};
+ghost use Rattle.p2p_driver.specs.Links.{link_of, closed};
+ghost use Rattle.p2p_driver.specs.Laws.{Begins, closes};
+ghost use Rattle.p2p_driver.specs.Drivers.{DriverView, Base, DriverStandsAt, AreRight, link};
+ghost use Rattle.p2p_driver.specs.Drivers.{may_come, no_proof};
+ghost use Rattle.p2p_driver.specs.Answers.{times_of};
+ghost use Rattle.p2p_driver.specs.Rates.{count_in};
+
+use crate::actions::Why;
+use crate::links::{Held, Phase};
+use crate::origin::Origin;
+use p2p_discovery::codec::PublicKey;
+use std::time::Duration;
+
+/// By a law of drivers, there is one link for each reservation, whatever a driver did that it might
+/// do. Its node retains a set or more.
+///
+/// - By what it did, a peer has a link exactly if it is reserved or connected in the world that the
+///   calls of its node make.
+/// - The node of a driver that did it holds reservations of exactly the peers that have a link.
+/// - The links that the driver keeps are those by what it did.
+/// - The calls are accepted calls of the node, so all laws of runs hold of them.
+/// - Their moments never go back.
+pub fn links_are_reservations<C: PublicKey>()
+    ensures world { (b : Base C C.Signature) → b.made.directory.cmp ≡ C.cmp →
+        1 ≤ b.made.directory.max_sets → (h : List (Happening C C.Signature)) → AreRight b h →
+        (p : C) →
+        is_some (link b p h) ≡ is_busy_in (world_after b.made.directory (calls_of h)) p }
+    ensures held { (b : Base C C.Signature) → b.made.directory.cmp ≡ C.cmp →
+        1 ≤ b.made.directory.max_sets → (h : List (Happening C C.Signature))
+        (v : DriverView C C.Signature) → DriverStandsAt b h v → (p : C) →
+        is_some (held_of C.cmp v.node.held p) ≡ is_some (link_of C.cmp v.links p) }
+    ensures kept { (b : Base C C.Signature) → b.made.directory.cmp ≡ C.cmp →
+        (h : List (Happening C C.Signature)) (v : DriverView C C.Signature) →
+        DriverStandsAt b h v → (p : C) → link_of C.cmp v.links p ≡ link b p h }
+    ensures run { (b : Base C C.Signature) (h : List (Happening C C.Signature))
+        (v : DriverView C C.Signature) → DriverStandsAt b h v →
+        NodeStandsAt b.made (calls_of h) v.node }
+    ensures in_time { (b : Base C C.Signature) (h : List (Happening C C.Signature)) →
+        AreRight b h → NeverGoBack b.made.directory (latest_at h) (calls_of h) }
+{}
+
+/// By a law of drivers, each link has a number of its own, whatever it did that it might do.
+///
+/// - No stream whose key isn't proved has the number of a link, and it is lower than that of the
+///   next stream.
+/// - Two links with one number are of one peer.
+pub fn one_link<C: PublicKey>()
+    ensures proved { (b : Base C C.Signature) (h : List (Happening C C.Signature)) →
+        AreRight b h → (p : C) (held : Held) → link b p h ≡ Some held →
+        (stream_at held.number h ≡ None) × (held.number < next_at h) }
+    ensures one { (b : Base C C.Signature) → b.made.directory.cmp ≡ C.cmp →
+        (h : List (Happening C C.Signature)) → AreRight b h → (p q : C) (held other : Held) →
+        link b p h ≡ Some held → link b q h ≡ Some other → held.number ≡ other.number →
+        same b.made.directory p q ≡ true }
+{}
+
+/// By a law of drivers, a set of peers that is accepted closes at once the links of those that it
+/// tears down.
+///
+/// - It tears down exactly those peers with a link that were entitled before it, and aren't after
+///   it. A peer is entitled if a retained set names it or it is a bootstrapper. The node retains a
+///   set or more.
+/// - The link of each of these is closing then, and every other link is as before.
+/// - If it wasn't closing before, its close is said.
+pub fn closed_at_once<C: PublicKey>()
+    ensures torn { (b : Base C C.Signature) → b.made.directory.cmp ≡ C.cmp →
+        1 ≤ b.made.directory.max_sets → (h : List (Happening C C.Signature))
+        (t : Duration) (index : ℕ) (primary secondary torn : List C) →
+        let s = b.made.directory in let e = SetCame t index primary secondary torn in
+        AreRight b (e ∷ h) → (p : C) → has_key s.cmp torn p ≡ (is_some (link b p h)
+        && is_entitled s p (world_after s (calls_of h)).sets
+        && not (is_entitled s p (world_after s (calls_of (e ∷ h))).sets)) }
+    ensures closing { (b : Base C C.Signature) (h : List (Happening C C.Signature))
+        (t : Duration) (index : ℕ) (primary secondary torn : List C) (p : C) →
+        let e = SetCame t index primary secondary torn in
+        link b p (e ∷ h) ≡ (if has_key b.made.directory.cmp torn p
+        then option_map closed (link b p h) else link b p h) }
+    ensures said { (b : Base C C.Signature) → b.made.directory.cmp ≡ C.cmp →
+        (h : List (Happening C C.Signature))
+        (t : Duration) (index : ℕ) (primary secondary torn : List C) (p : C) (held : Held) →
+        let s = b.made.directory in let e = SetCame t index primary secondary torn in
+        has_key s.cmp torn p ≡ true → link b p h ≡ Some held → ¬ (held.phase ≡ Phase.Closing) →
+        Contains (says_by s b.greeting h e) (closes held.number Why.NoSet) }
+{}
+
+/// By a law of drivers, no more is kept than the settings say, whatever it did that it might do.
+///
+/// - There are at most `links` links, and at most `inbound`, since all are inbound.
+/// - A driver keeps as many links as there are by what it did.
+/// - It keeps at most `arrivals` streams that aren't proved, at most `by_address` of each origin.
+pub fn budget<C: PublicKey>()
+    ensures links { (b : Base C C.Signature) (h : List (Happening C C.Signature)) →
+        AreRight b h → link_count h ≤ b.pace.links }
+    ensures inbound { (b : Base C C.Signature) (h : List (Happening C C.Signature)) →
+        AreRight b h → link_count h ≤ b.pace.inbound }
+    ensures kept { (b : Base C C.Signature) (h : List (Happening C C.Signature))
+        (v : DriverView C C.Signature) → DriverStandsAt b h v → length v.links ≡ link_count h }
+    ensures arrivals { (b : Base C C.Signature) (h : List (Happening C C.Signature))
+        (v : DriverView C C.Signature) → DriverStandsAt b h v →
+        length v.arrivals ≤ b.pace.arrivals }
+    ensures by_address { (b : Base C C.Signature) (h : List (Happening C C.Signature))
+        (v : DriverView C C.Signature) → DriverStandsAt b h v → (origin : Origin) →
+        count_by (is_of origin) v.arrivals ≤ b.pace.by_address }
+{}
+
+/// By a law of drivers, a claim that goes on is kept: the stream becomes a link if it is proved at
+/// once to be that peer's, unless an allocation fails. One that is closed as `NotGranted` wouldn't.
+/// One that is closed as `Crowded` would, but its rate has no more.
+pub fn claims_are_exact<C: PublicKey>()
+    ensures goes_on { (b : Base C C.Signature) → b.made.directory.cmp ≡ C.cmp →
+        (h : List (Happening C C.Signature)) (n : ℕ) (p : C) (origin : Origin) (t : Duration) →
+        AreRight b (Claimed n p origin t ∷ h) →
+        no_proof b (Claimed n p origin t ∷ h) n p (as_nanos t) ≡ None }
+    ensures not_granted { (b : Base C C.Signature) (h : List (Happening C C.Signature)) (n : ℕ)
+        (p : C) (t : Duration) → AreRight b (Refused n p t Why.NotGranted ∷ h) →
+        may_come b h p (as_nanos t) ≡ false }
+    ensures crowded { (b : Base C C.Signature) (h : List (Happening C C.Signature)) (n : ℕ)
+        (p : C) (t : Duration) → AreRight b (Refused n p t Why.Crowded ∷ h) →
+        may_come b h p (as_nanos t) ≡ true }
+{}
+
+/// By a law of drivers, of the claims that it answered there are in a window of time no more than a
+/// burst, and one more for each refill of the window's length, at the rate of all, and of those of
+/// one origin at its rate, whatever it did that it might do.
+pub fn claims_in_time<C: PublicKey>()
+    ensures all { (b : Base C C.Signature) (h : List (Happening C C.Signature)) → AreRight b h →
+        let burst = non_zero_u32_get b.pace.answers.burst in
+        let refill = as_nanos b.pace.answers.refill in (from size : ℕ) →
+        count_in from size (map (λ c. c.1) (answered_in h)) * refill ≤ burst * refill + size }
+    ensures of_origin { (b : Base C C.Signature) (h : List (Happening C C.Signature)) →
+        AreRight b h → let burst = non_zero_u32_get b.pace.answers_of_address.burst in
+        let refill = as_nanos b.pace.answers_of_address.refill in (o from size : ℕ) →
+        count_in from size (times_of o (answered_in h)) * refill ≤ burst * refill + size }
+{}
+
+/// By a law of drivers, the host takes what was said, all of it and in order.
+///
+/// - Of a driver, what was taken and the actions that wait are all that was said.
+/// - What was taken is a beginning of what was said, whatever it did that it might do.
+pub fn taken_in_order<C: PublicKey>()
+    ensures stands { (b : Base C C.Signature) (h : List (Happening C C.Signature))
+        (v : DriverView C C.Signature) → DriverStandsAt b h v →
+        taken h ++ v.actions ≡ said b.made.directory b.greeting h }
+    ensures begins { (b : Base C C.Signature) (h : List (Happening C C.Signature)) →
+        AreRight b h → Begins (taken h) (said b.made.directory b.greeting h) }
+{}

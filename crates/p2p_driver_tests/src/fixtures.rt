@@ -1,0 +1,124 @@
+//! What the tests of a driver share: drivers with the recommended settings, streams, and actions
+//! that can be compared.
+
+use lines::{command, setup};
+use p2p_directory::run::Command;
+use p2p_discovery::codec::TestKey;
+use p2p_driver::actions::{Action, Event, Why};
+use p2p_driver::driver::{Driver, Tracked};
+use p2p_driver::link::{Link, Now};
+use p2p_driver::pace::Pace;
+use std::alloc::{AllocError, Global};
+use std::test::Fail;
+use std::time::Duration;
+
+/// The settings of a tested driver's node: its key is 9, and it retains one set.
+pub const SETTINGS: &str = "cooldown=60";
+
+/// An action of a tested driver, without its frame.
+#[derive(Clone, Copy, Debug, PartialEq, Eq)]
+pub enum Said {
+    /// No action waits.
+    Nothing,
+    /// A frame is sent on the link.
+    Sent(u64),
+    /// The link is closed.
+    Closed(u64, Why),
+    /// The application is told.
+    Told(Event<TestKey>),
+}
+
+/// The recommended settings of a tested driver for 4 peers with a cooldown of 60 s: 64 streams, 32
+/// of an address, which have 3 s to claim and 5 s to be proved; 4 links, whose peers have 5 s to
+/// greet.
+pub fn pace(alloc: Global) -> Pace {
+    Pace::recommended(alloc, 4, Duration::from_secs(60)).pace
+}
+
+/// What is found by a driver with these settings, for the tests of drivers. The driver ends here
+/// alone: each place where a directory is dropped takes a check as long as that of a test.
+pub fn driven<T, F: FnOnce(&mut Driver<TestKey>) -> T>(
+    alloc: Global,
+    settings: &'static str,
+    pace: Pace,
+    find: F,
+) -> Result<T, Fail>
+    requires { F.IsAlwaysCallable find }
+{
+    let setup = setup(alloc, settings)?;
+    let mut driver = Driver::new(alloc, setup, pace)?;
+    let found = find(&mut driver);
+    driver.finish();
+    Ok(found)
+}
+
+/// The times of a tested call: a steady one in milliseconds, and a wall clock that goes back
+/// meanwhile, by which a driver without frames doesn't go.
+pub fn at(millis: u64) -> Now {
+    Now {
+        steady: Duration::from_millis(millis),
+        wall: Duration::from_millis(1_000_000u64.saturating_sub(millis)),
+    }
+}
+
+/// The IPv4 address 10.0.0.`last` of a tested stream.
+pub fn ipv4(last: u8) -> [u8; 16] {
+    [0, 0, 0, 0, 0, 0, 0, 0, 0, 0, 255, 255, 10, 0, 0, last]
+}
+
+/// Takes the next action of a tested driver.
+pub fn next(driver: &mut Driver<TestKey>) -> Said {
+    match driver.next_action() {
+        Some(Action::Send { link, frame: _ }) => Said::Sent(link.0),
+        Some(Action::Close { link, why }) => Said::Closed(link.0, why),
+        Some(Action::Told(event)) => Said::Told(event),
+        None => Said::Nothing,
+    }
+}
+
+/// Takes the next two actions of a tested driver.
+pub fn next_two(driver: &mut Driver<TestKey>) -> [Said; 2] {
+    let first = next(driver);
+    [first, next(driver)]
+}
+
+/// Tracks the set of a line such as `track 0 1,2` by a tested driver at this time.
+pub fn track(
+    alloc: Global,
+    driver: &mut Driver<TestKey>,
+    line: &'static str,
+    millis: u64,
+) -> Result<Option<Tracked>, Fail> {
+    match command(alloc, line)? {
+        Command::Track { index, peers } => Ok(Some(driver.track(index, peers, at(millis))?)),
+        _ => Ok(None),
+    }
+}
+
+/// Lets a stream come to a tested driver from an address, and claim to be the peer's. Returns its
+/// number, 0 if there is no room for it, and whether the claim is answered.
+pub fn claim(
+    driver: &mut Driver<TestKey>,
+    last: u8,
+    peer: u64,
+    millis: u64,
+) -> Result<(u64, bool), AllocError> {
+    match driver.arrived(ipv4(last), at(millis))? {
+        Some(link) => Ok((link.0, driver.claimed(link, TestKey(peer), at(millis)))),
+        None => Ok((0, false)),
+    }
+}
+
+/// Lets a stream come to a tested driver from an address, claim to be the peer's and be proved to
+/// be, with a word of 0. Returns its number, 0 if there is no room for it, and whether the claim is
+/// answered and the proof accepted.
+pub fn prove(
+    driver: &mut Driver<TestKey>,
+    last: u8,
+    peer: u64,
+    millis: u64,
+) -> Result<(u64, bool, bool), AllocError> {
+    let (number, claimed) = claim(driver, last, peer, millis)?;
+    let proved = driver.proved(Link(number), TestKey(peer), 0, at(millis))?;
+    Ok((number, claimed, proved))
+}
