@@ -1,17 +1,18 @@
 -- Links are of exactly the peers that are reserved or connected.
-use Rattle.std.proofs.Common.{◌≡◌, ℕ, ◌≤◌, Bool, true, false, not, ◌&&◌, ◌||◌, List, [], ◌∷◌, Option, Some, None, refl, sym, ◌∙◌, ap}
+use Rattle.std.proofs.Common.{◌≡◌, ℕ, ◌≤◌, Bool, true, false, not, ◌&&◌, ◌||◌, List, [], ◌∷◌, ◌++◌, Option, Some, None, refl, sym, ◌∙◌, ap}
 use Rattle.std.specs.Prelude.{if◌then◌else◌, is_some}
 use Rattle.std.specs.Option.{IsSomeAnd}
 use Rattle.std.specs.Duration.{as_nanos}
 use Rattle.std.proofs.lemmas.Map.Lookups.{CmpEqualImpliesEq}
 use Rattle.std.specs.declared.cmp.Ordering.{Ordering}
+use Rattle.std.specs.declared.time.Duration.{Duration}
 use Rattle.p2p_directory.specs.Held.{held_of}
 use Rattle.p2p_directory.specs.Received.{Wire}
 use Rattle.p2p_directory.specs.declared.node.setup.Setup.{Setup}
 use Rattle.p2p_driver.specs.declared.pace.Pace.{Pace}
 use Rattle.p2p_driver.specs.Steps.{IsBusy}
 use Rattle.p2p_tracker.specs.Calls.{Settings, Call}
-use Rattle.p2p_tracker.specs.Calls.Call.{Track, Listen, Release, UnblockExpired, ForgetCooled}
+use Rattle.p2p_tracker.specs.Calls.Call.{Track, Listen, Connect, Release, Update, Block, UnblockExpired, ForgetCooled}
 use Rattle.p2p_tracker.specs.History.{same}
 use Rattle.p2p_tracker.specs.Answers.{was_granted, may_listen_at, may_release}
 use Rattle.p2p_tracker.specs.World.{listen_event}
@@ -19,14 +20,15 @@ use Rattle.p2p_directory.specs.Run.{world_after, event_of}
 use Rattle.p2p_directory.specs.Laws.Steps.{is_busy_in, is_busy_after}
 use Rattle.p2p_directory.proofs.LawsOfRuns.OneCall
 use Rattle.p2p_driver.specs.declared.links.Held.{Held}
-use Rattle.p2p_driver.specs.Happenings.{Happening, calls_of, link_at, opened_by, ends_by, closes_by, greets_by}
+use Rattle.p2p_driver.specs.Frames.{Outcome}
+use Rattle.p2p_driver.specs.Happenings.{Happening, calls_of, calls_for, link_at, opened_by, ends_by}
 use Rattle.p2p_driver.specs.Links.{link_of}
 use Rattle.p2p_driver.specs.Drivers.{DriverView, Base, DriverStandsAt, DriverStands, base_of, AreRight, link, may_come, has_place, IsLinkOf}
-use Rattle.p2p_driver.proofs.LinkHistory.{link_after, link_later, link_opens, ended_link}
+use Rattle.p2p_driver.proofs.LinkHistory.{Touch, touch_by, link_after, link_later, link_opens, ended_link}
 
-still_linked : (closes greets : Bool) (o : Option Held) → is_some (link_after false closes greets o) ≡ is_some o
-still_linked closes greets None = refl
-still_linked closes greets (Some held) = refl
+still_linked : (touch : Touch) (o : Option Held) → is_some (link_after false touch o) ≡ is_some o
+still_linked touch None = refl
+still_linked touch (Some held) = refl
 
 some_if : (b : Bool) (held : Held) (o : Option Held) → is_some (if b then Some held else o) ≡ (b || is_some o)
 some_if true held o = refl
@@ -61,8 +63,8 @@ module _ {C S : Type 0} (b : Base C S) where
   kept : (e : Happening C S) (h : List (Happening C S)) (p : C) → opened_by d p e ≡ None →
       ends_by d p e ≡ false → is_some (link b p (e ∷ h)) ≡ is_some (link b p h)
   kept e h p opens ends = ap is_some (link_later d p e h opens
-      ∙ ap (λ x. link_after x (closes_by d p e) (greets_by d p e) (link_at d p h)) ends)
-      ∙ still_linked (closes_by d p e) (greets_by d p e) (link_at d p h)
+      ∙ ap (λ x. link_after x (touch_by d p e) (link_at d p h)) ends)
+      ∙ still_linked (touch_by d p e) (link_at d p h)
 
   module _ (some : 1 ≤ b.made.directory.max_sets) (exact : CmpEqualImpliesEq b.made.directory.cmp) where
     abbrev pub busy : List (Call C S) → C → Bool
@@ -72,6 +74,20 @@ module _ {C S : Type 0} (b : Base C S) where
     called : (cs : List (Call C S)) (c : Call C S) (p : C) →
         busy (c ∷ cs) p ≡ is_busy_after d c (was_granted (event_of d cs c)) p (busy cs p)
     called cs c p = OneCall.busy_is d some exact cs c p
+
+    -- .. of those since a peer was heard
+    called_for : (cs : List (Call C S)) (q : C) (t : Duration) (outcome : Outcome C S) (p : C) →
+        busy (calls_for q t outcome ++ cs) p ≡ busy cs p
+    called_for cs q t (Outcome.Waits waiting) p = refl
+    called_for cs q t (Outcome.Greets info question) p =
+        called (Update (info ∷ []) ∷ cs) (Connect q false) p ∙ called cs (Update (info ∷ [])) p
+    called_for cs q t (Outcome.Takes infos) p = called cs (Update infos) p
+    called_for cs q t (Outcome.Answers reply) p = refl
+    called_for cs q t (Outcome.Delivers message) p = refl
+    called_for cs q t Outcome.Ignores p = refl
+    called_for cs q t (Outcome.Breaks breach (Some taken)) p = called cs (Block q (as_nanos t)) p
+    called_for cs q t (Outcome.Breaks breach None) p = refl
+    called_for cs q t Outcome.IsEarly p = refl
 
     pub linked_is_busy : (h : List (Happening C S)) → AreRight b h → (p : C) →
         is_some (link b p h) ≡ is_busy_in (world_after d (calls_of h)) p
@@ -107,6 +123,17 @@ module _ {C S : Type 0} (b : Base C S) where
         kept (Happening.StreamLate n t) h p refl refl ∙ linked_is_busy h right.2 p
     linked_is_busy (Happening.LinkLate n q t ∷ h) right p =
         kept (Happening.LinkLate n q t) h p refl refl ∙ linked_is_busy h right.2 p
+    linked_is_busy (Happening.Heard n q t owed cause outcome ∷ h) right p =
+        kept (Happening.Heard n q t owed cause outcome) h p refl refl ∙ linked_is_busy h right.2 p
+        ∙ sym (called_for (calls_of h) q t outcome p)
+    linked_is_busy (Happening.Given infos t ∷ h) right p =
+        kept (Happening.Given infos t) h p refl refl ∙ linked_is_busy h right.2 p
+        ∙ sym (called (calls_of h) (Update infos) p)
+    linked_is_busy (Happening.Barred q t taken ∷ h) right p =
+        kept (Happening.Barred q t taken) h p refl refl ∙ linked_is_busy h right.2 p
+        ∙ sym (called (calls_of h) (Block q (as_nanos t)) p)
+    linked_is_busy (Happening.Parted q t ∷ h) right p =
+        kept (Happening.Parted q t) h p refl refl ∙ linked_is_busy h right.2 p
     linked_is_busy (Happening.Passed t ∷ h) right p =
         kept (Happening.Passed t) h p refl refl ∙ linked_is_busy h right.2 p
         ∙ sym (called (ForgetCooled (as_nanos t) ∷ calls_of h) (UnblockExpired (as_nanos t)) p

@@ -68,6 +68,10 @@ module _ {C S : Type 0} (b : Base C S) where
       other (Happening.StaleSetCame index primary secondary) h refl right.1 (none_after h right.2)
   none_after (Happening.StreamLate n t ∷ h) right = other (Happening.StreamLate n t) h refl right.1 (none_after h right.2)
   none_after (Happening.LinkLate n q t ∷ h) right = other (Happening.LinkLate n q t) h refl right.1 (none_after h right.2)
+  none_after (Happening.Heard n q t owed cause outcome ∷ h) right = other (Happening.Heard n q t owed cause outcome) h refl right.1 (none_after h right.2)
+  none_after (Happening.Given infos t ∷ h) right = other (Happening.Given infos t) h refl right.1 (none_after h right.2)
+  none_after (Happening.Barred q t taken ∷ h) right = other (Happening.Barred q t taken) h refl right.1 (none_after h right.2)
+  none_after (Happening.Parted q t ∷ h) right = other (Happening.Parted q t) h refl right.1 (none_after h right.2)
   none_after (Happening.Passed t ∷ h) right = other (Happening.Passed t) h refl right.1 (none_after h right.2)
   none_after (Happening.Taken action ∷ h) right = other (Happening.Taken action) h refl right.1 (none_after h right.2)
 
@@ -86,6 +90,10 @@ module _ {C S : Type 0} (b : Base C S) where
   are_answered (Happening.StaleSetCame index primary secondary ∷ h) right = are_answered h right.2
   are_answered (Happening.StreamLate n t ∷ h) right = are_answered h right.2
   are_answered (Happening.LinkLate n q t ∷ h) right = are_answered h right.2
+  are_answered (Happening.Heard n q t owed cause outcome ∷ h) right = are_answered h right.2
+  are_answered (Happening.Given infos t ∷ h) right = are_answered h right.2
+  are_answered (Happening.Barred q t taken ∷ h) right = are_answered h right.2
+  are_answered (Happening.Parted q t ∷ h) right = are_answered h right.2
   are_answered (Happening.Passed t ∷ h) right = are_answered h right.2
   are_answered (Happening.Taken action ∷ h) right = are_answered h right.2
 
@@ -105,7 +113,7 @@ module _ {C S : Type 0} (b : Base C S) where
           && may_listen_at b.made.directory (world_after b.made.directory (calls_of h)) p (as_nanos t))) counted
           ∙ ap (λ o. (nat_lt (link_count h) b.pace.links && nat_lt (link_count h) b.pace.inbound) && (not (is_some o)
           && may_listen_at b.made.directory (world_after b.made.directory (calls_of h)) p (as_nanos t)))
-          (link_stays b.made.directory p e h refl refl refl refl)
+          (link_stays b.made.directory p e h refl refl refl)
         where
           counted : link_count (e ∷ h) ≡ link_count h
           counted = let proved = one_more is_proved e h false refl in let ended = one_more is_ended e h false refl in grind (arith)

@@ -206,7 +206,7 @@ module _ {C S : Type 0} (node : NodeView C S) (pace : Pace) (greeting : List ℕ
           refl refl refl refl refl refl (ap (λ k. filter (λ a. not (has_number k a)) arrivals) (sym number) ∙ sym streams) refl refl
           (ap (λ k. actions ++ closing k w) (sym number) ∙ sym said))
           (Standing.goes b h v at n t (Happening.Refused n p t w) (closing n w) (roomless answers2)
-          refl (λ j. refl) (λ j. refl) (λ j. refl) refl refl (λ q. refl) (λ q. refl) (λ q. refl) (λ q. refl) refl refl refl refl refl (
+          refl (λ j. refl) (λ j. refl) (λ j. refl) refl refl (λ q. refl) (λ q. refl) (λ q. refl) refl refl refl refl refl (
             subst (λ o. IsSomeAnd o (λ a. a.claim ≡ None)) here none,
             (
               stream.origin,

@@ -159,7 +159,7 @@ module _ {C S : Type 0} (node : NodeView C S) (pace : Pace) (greeting : List ℕ
           node pace greeting cooldown (as_nanos t) next xs answers2 links actions2
           refl refl refl refl refl refl (sym streams) (sym same) refl (sym said))
           (Standing.goes b h v at n t (Happening.Unproved n p t w) (closing n w) (roomless answers)
-          refl (λ j. refl) (λ j. refl) (λ j. refl) refl refl (λ q. refl) (λ q. refl) (λ q. refl) (λ q. refl) refl refl refl refl refl
+          refl (λ j. refl) (λ j. refl) (λ j. refl) refl refl (λ q. refl) (λ q. refl) (λ q. refl) refl refl refl refl refl
           (ap (λ o. is_some o) (sym here), sym (no_proof_is cmp wire given pace2 h at n stream p t (Some w) here decides))
           after (Standing.answers_later b h v at (as_nanos t) after));
     }
@@ -177,7 +177,7 @@ module _ {C S : Type 0} (node : NodeView C S) (pace : Pace) (greeting : List ℕ
           node pace greeting cooldown (as_nanos t) next xs answers2 links actions2
           refl refl refl refl refl refl (sym streams) (sym same) refl (append-nil actions ∙ sym said))
           (Standing.goes b h v at n t (Happening.Left n t) [] (roomless answers)
-          refl (λ j. refl) (λ j. refl) (λ j. refl) refl refl (λ q. refl) (λ q. refl) (λ q. refl) (λ q. refl) refl refl refl refl refl
+          refl (λ j. refl) (λ j. refl) (λ j. refl) refl refl (λ q. refl) (λ q. refl) (λ q. refl) refl refl refl refl refl
           (ap (λ o. is_some o) (sym (at.arrivals.each n)) ∙ some)
           after (Standing.answers_later b h v at (as_nanos t) after));
     }

@@ -16,8 +16,8 @@ use Rattle.p2p_driver.specs.Actions.{ActionsView}
 use Rattle.p2p_driver.specs.Answers.{AnswersView, AreKept, roomless}
 use Rattle.p2p_driver.specs.Arrivals.{has_number, is_unclaimed, deadline_of}
 use Rattle.p2p_driver.specs.Drivers.{DriverView, DriverStandsAt, IsRight, HasRoom, Does, Rise, seen, base_of}
-use Rattle.p2p_driver.specs.Happenings.{Happening, calls_of, answered_in, closing, closed_at, shut}
-use Rattle.p2p_driver.specs.Links.{link_of, needs, need_of, need_at, is_late, is_greeting, due}
+use Rattle.p2p_driver.specs.Happenings.{Happening, calls_of, answered_in, closing, closed_at, shut, why_late}
+use Rattle.p2p_driver.specs.Links.{link_of, needs, need_of, need_at, is_late, is_timed, due}
 use Rattle.p2p_driver.specs.Steps.{Makes}
 use Rattle.p2p_driver.specs.Timers.{ClosesOne, ClosesLate, TimesOut}
 use Rattle.p2p_driver.specs.declared.actions.Action.{Action}
@@ -102,17 +102,14 @@ module _ {C : Type 0} where
     answers_fit = fits2;
   }
 
--- a link that is late hasn't been greeted on, and its time is over
-late_greeting : (within t : ℕ) (held : Held) → is_late within t held ≡ true →
-    (held.phase ≡ phase.Greeting) × (due within held ≤ t)
-late_greeting within t held late = go held.phase (nat_le (due within held) t) refl late
+-- a link that is late isn't closed: something may have to be said of it
+late_needs : (greeting silence t : ℕ) (held : Held) → is_late greeting silence t held ≡ true → 1 ≤ need_of held.phase
+late_needs greeting silence t held late = go held.phase (nat_le (due greeting silence held) t) late
   where
-    go : (ph : Phase) (b : Bool) → nat_le (due within held) t ≡ b → (is_greeting ph && b) ≡ true →
-        (ph ≡ phase.Greeting) × (due within held ≤ t)
-    go phase.Greeting true is late = (refl, up_to (due within held) t is)
-    go phase.Greeting false is late = absurd cc
-    go phase.Open b is late = absurd cc
-    go phase.Closing b is late = absurd cc
+    go : (ph : Phase) (b : Bool) → (is_timed ph && b) ≡ true → 1 ≤ need_of ph
+    go phase.Greeting b late = omega arith
+    go phase.Open b late = omega arith
+    go phase.Closing b late = absurd cc
 
 module _ {C S : Type 0} (cmp : C → C → Ordering) (wire : Wire C S) (node : NodeView C S) (pace : Pace)
     (greeting : List ℕ) (cooldown latest next : ℕ) (arrivals : List (Arrival C)) (answers : AnswersView)
@@ -149,7 +146,7 @@ module _ {C S : Type 0} (cmp : C → C → Ordering) (wire : Wire C S) (node : N
           actions = actions ++ closing n why.Slow;
         }) node pace greeting cooldown latest next arrivals2 answers2 links actions2 refl refl refl refl (sym now) refl (sym gone) (sym same) refl (sym said))
         (Standing.goes b h v at n t e (closing n why.Slow) (roomless answers) refl (λ j. refl) (λ j. refl) (λ j. refl) refl refl
-        (λ p. refl) (λ p. refl) (λ p. refl) (λ p. refl) refl refl refl refl refl
+        (λ p. refl) (λ p. refl) (λ p. refl) refl refl refl refl refl
         (right b h at) (let is = now in grind (arith))
         (subst (λ k. AreKept b.pace k (answered_in h) (roomless answers)) (sym at.latest ∙ now) at.answers));
   }
@@ -183,40 +180,39 @@ module _ {C S : Type 0} (cmp : C → C → Ordering) (wire : Wire C S) (node : N
   -- a link that is late is closed
   link_closes : (n : ℕ) (p : C) (held : Held) (t : Duration) (links2 : List (C × Held)) (actions2 : List (Action C)) →
       latest ≡ as_nanos t → link_of cmp links p ≡ Some held → n ≡ held.number →
-      is_late (as_nanos pace.greeting) (as_nanos t) held ≡ true →
+      is_late (as_nanos pace.greeting) (as_nanos pace.silence) (as_nanos t) held ≡ true →
       ((q : C) → link_of cmp links2 q ≡ closed_at cmp p (link_of cmp links) q) → length links2 ≡ length links →
-      actions2 ≡ actions ++ shut p why.Slow (link_of cmp links p) →
+      actions2 ≡ actions ++ shut p (why_late (link_of cmp links p)) (link_of cmp links p) →
       Does cmp wire (Happening.LinkLate n p t) v (seen node pace greeting cooldown latest next arrivals answers links2 actions2)
   link_closes n p held t links2 actions2 now linked is late tied same said = record {
     goes = λ given pace2 h at.
         let b = base_of cmp wire given pace2 in
-        let tells = late_greeting (as_nanos pace.greeting) (as_nanos t) held late in
         subst (DriverStandsAt b (Happening.LinkLate n p t ∷ h))
         (viewed (record v {
           latest = as_nanos t;
           links = links2;
-          actions = actions ++ shut p why.Slow (link_of cmp links p);
+          actions = actions ++ shut p (why_late (link_of cmp links p)) (link_of cmp links p);
         }) node pace greeting cooldown latest next arrivals answers links2 actions2 refl refl refl refl (sym now) refl refl refl refl (sym said))
         (Standing.lapses b h v at n p t links2
-        (subst (λ o. IsSomeAnd o (λ held. (held.number ≡ n) × (held.phase ≡ phase.Greeting)
-        × (as_nanos held.since + as_nanos b.pace.greeting ≤ as_nanos t))) (sym linked ∙ at.links p)
-        (sym is, tells.0, subst (λ pace. as_nanos held.since + as_nanos pace.greeting ≤ as_nanos t) at.pace tells.1))
+        (subst (λ o. IsSomeAnd o (λ held. (held.number ≡ n)
+        × (is_late (as_nanos b.pace.greeting) (as_nanos b.pace.silence) (as_nanos t) held ≡ true))) (sym linked ∙ at.links p)
+        (sym is, subst (λ (pace : Pace). is_late (as_nanos pace.greeting) (as_nanos pace.silence) (as_nanos t) held ≡ true) at.pace late))
         (let is = now in grind (arith)) tied same);
   }
 
   pub late_link : (p : C) (t : Duration) (links2 : List (C × Held)) (actions2 : List (Action C)) →
       latest ≡ as_nanos t →
-      IsSomeAnd (link_of cmp links p) (λ held. is_late (as_nanos pace.greeting) (as_nanos t) held ≡ true) →
+      IsSomeAnd (link_of cmp links p) (λ held. is_late (as_nanos pace.greeting) (as_nanos pace.silence) (as_nanos t) held ≡ true) →
       ((q : C) → link_of cmp links2 q ≡ closed_at cmp p (link_of cmp links) q) → length links2 ≡ length links →
-      actions2 ≡ actions ++ shut p why.Slow (link_of cmp links p) → needs links2 + need_at (link_of cmp links p) ≡ needs links →
+      actions2 ≡ actions ++ shut p (why_late (link_of cmp links p)) (link_of cmp links p) → needs links2 + need_at (link_of cmp links p) ≡ needs links →
       ClosesOne cmp wire t v (seen node pace greeting cooldown latest next arrivals answers links2 actions2)
   late_link p t links2 actions2 now late tied same said less = go (link_of cmp links p) refl late
     where
-      needed : (held : Held) → link_of cmp links p ≡ Some held → held.phase ≡ phase.Greeting → needs links2 + 1 ≡ needs links
-      needed held linked greets = sym (ap (λ o. needs links2 + need_at o) linked ∙ ap (λ ph. needs links2 + need_of ph) greets) ∙ less
+      needed : (held : Held) → link_of cmp links p ≡ Some held → needs links2 + need_of held.phase ≡ needs links
+      needed held linked = sym (ap (λ o. needs links2 + need_at o) linked) ∙ less
 
       go : (o : Option Held) → link_of cmp links p ≡ o →
-          IsSomeAnd o (λ held. is_late (as_nanos pace.greeting) (as_nanos t) held ≡ true) →
+          IsSomeAnd o (λ held. is_late (as_nanos pace.greeting) (as_nanos pace.silence) (as_nanos t) held ≡ true) →
           ClosesOne cmp wire t v (seen node pace greeting cooldown latest next arrivals answers links2 actions2)
       go None linked late = absurd late
       go (Some held) linked late = record {
@@ -224,7 +220,8 @@ module _ {C S : Type 0} (cmp : C → C → Ordering) (wire : Wire C S) (node : N
         is_late = refl;
         does = link_closes held.number p held t links2 actions2 now linked refl late tied same said;
         latest = refl;
-        fewer = let one = needed held linked (late_greeting (as_nanos pace.greeting) (as_nanos t) held late).0 in grind (arith);
+        fewer = let one = needed held linked in
+            let some = late_needs (as_nanos pace.greeting) (as_nanos pace.silence) (as_nanos t) held late in grind (arith);
       }
 
 module _ {C S : Type 0} (cmp : C → C → Ordering) (wire : Wire C S) (t : Duration) where

@@ -1,4 +1,4 @@
--- Who greets too late, among the entries of the links.
+-- Who is late, among the entries of the links.
 use Rattle.std.proofs.Common.{◌≡◌, ◌≤◌, ℕ, zero, suc, Bool, true, false, cond, List, [], ◌∷◌}
 use Rattle.std.proofs.Common.{Option, Some, None, find, slice_get, refl, sym, ◌∙◌, ap, subst, arith}
 use Rattle.std.proofs.Common.{◌⊎◌, inl, inr}
@@ -15,7 +15,7 @@ use Rattle.std.proofs.lemmas.Map.Entries.{place_from_lookup, lookup_from_place}
 use Rattle.std.proofs.lemmas.Map.Keys.{IsDistinct-from_sorted}
 use Rattle.p2p_driver.specs.declared.links.Held.{Held}
 use Rattle.p2p_driver.specs.Arrivals.{lesser_of}
-use Rattle.p2p_driver.specs.Links.{link_of, is_greeting, due, IsLeastDue, sooner_of, least_due}
+use Rattle.p2p_driver.specs.Links.{link_of, is_timed, due, IsLeastDue, sooner_of, least_due}
 
 -- where the first is found
 found_at : {A : Type 0} (p : A → Bool) (xs : List A) (x : A) → find p xs ≡ Some x →
@@ -64,19 +64,19 @@ lesser_one (Some n) m = elim (cases_lt n m) [
   | inr more ↦ inl (omega (arith, more))
 ]
 
-module _ {C : Type 0} (within : ℕ) where
-  -- one of the entries has to greet by the moment
+module _ {C : Type 0} (greeting silence : ℕ) where
+  -- one of the entries has to be heard by the moment
   abbrev Has : List (C × Held) → ℕ → Type 0
   Has es least = (i : ℕ) × (e : C × Held) × (slice_get es i ≡ Some e)
-      × (is_greeting e.1.phase ≡ true) × (due within e.1 ≡ least)
+      × (is_timed e.1.phase ≡ true) × (due greeting silence e.1 ≡ least)
 
-  -- the least of a moment and those by which the entries have to greet
+  -- the least of a moment and those by which the entries have to be heard
   abbrev IsLeast : List (C × Held) → Option ℕ → Option ℕ → Type 0
   IsLeast es next None = (next ≡ None)
-      × ((i : ℕ) (e : C × Held) → slice_get es i ≡ Some e → is_greeting e.1.phase ≡ false)
+      × ((i : ℕ) (e : C × Held) → slice_get es i ≡ Some e → is_timed e.1.phase ≡ false)
   IsLeast es next (Some least) =
-      ((i : ℕ) (e : C × Held) → slice_get es i ≡ Some e → is_greeting e.1.phase ≡ true →
-      least ≤ due within e.1)
+      ((i : ℕ) (e : C × Held) → slice_get es i ≡ Some e → is_timed e.1.phase ≡ true →
+      least ≤ due greeting silence e.1)
       × ((m : ℕ) → next ≡ Some m → least ≤ m)
       × (Has es least ⊎ (next ≡ Some least))
 
@@ -84,56 +84,56 @@ module _ {C : Type 0} (within : ℕ) where
   later x es least has = (suc has.0, has.1, has.2, has.3, has.4)
 
   step : (x : C × Held) (es : List (C × Held)) (next r : Option ℕ) (b : Bool) →
-      is_greeting x.1.phase ≡ b →
-      IsLeast es (if b then Some (lesser_of next (due within x.1)) else next) r →
+      is_timed x.1.phase ≡ b →
+      IsLeast es (if b then Some (lesser_of next (due greeting silence x.1)) else next) r →
       IsLeast (x ∷ es) next r
   step x es next None true is least = absurd (let e = least.0 in cc)
   step x es next None false is least = (least.0, each)
     where
-      each : (i : ℕ) (e : C × Held) → slice_get (x ∷ es) i ≡ Some e → is_greeting e.1.phase ≡ false
-      each zero e at = ap (λ o. is_greeting (unwrap_or o x).1.phase) (sym at) ∙ is
+      each : (i : ℕ) (e : C × Held) → slice_get (x ∷ es) i ≡ Some e → is_timed e.1.phase ≡ false
+      each zero e at = ap (λ o. is_timed (unwrap_or o x).1.phase) (sym at) ∙ is
       each (suc i) e at = least.1 i e at
   step x es next (Some r) true is least = (each, low, one)
     where
-      each : (i : ℕ) (e : C × Held) → slice_get (x ∷ es) i ≡ Some e → is_greeting e.1.phase ≡ true →
-          r ≤ due within e.1
-      each zero e at greets =
-          let f = ap (λ o. due within (unwrap_or o x).1) at in
-          omega (arith, f, least.1 (lesser_of next (due within x.1)) refl, lesser_within next (due within x.1))
-      each (suc i) e at greets = least.0 i e at greets
+      each : (i : ℕ) (e : C × Held) → slice_get (x ∷ es) i ≡ Some e → is_timed e.1.phase ≡ true →
+          r ≤ due greeting silence e.1
+      each zero e at timed =
+          let f = ap (λ o. due greeting silence (unwrap_or o x).1) at in
+          omega (arith, f, least.1 (lesser_of next (due greeting silence x.1)) refl, lesser_within next (due greeting silence x.1))
+      each (suc i) e at timed = least.0 i e at timed
 
       low : (m : ℕ) → next ≡ Some m → r ≤ m
-      low m e = omega (arith, least.1 (lesser_of next (due within x.1)) refl, lesser_below next (due within x.1) m e)
+      low m e = omega (arith, least.1 (lesser_of next (due greeting silence x.1)) refl, lesser_below next (due greeting silence x.1) m e)
 
       one : Has (x ∷ es) r ⊎ (next ≡ Some r)
       one = elim least.2 [
         | inl has ↦ inl (later x es r has)
-        | inr e ↦ elim (lesser_one next (due within x.1)) [
+        | inr e ↦ elim (lesser_one next (due greeting silence x.1)) [
           | inl here ↦ inl (zero, x, refl, is, sym here ∙ ap (λ o. unwrap_or o 0) e)
           | inr there ↦ inr (there ∙ e)
         ]
       ]
   step x es next (Some r) false is least = (each, least.1, one)
     where
-      each : (i : ℕ) (e : C × Held) → slice_get (x ∷ es) i ≡ Some e → is_greeting e.1.phase ≡ true →
-          r ≤ due within e.1
-      each zero e at greets = absurd (let f = sym (ap (λ o. is_greeting (unwrap_or o x).1.phase) at) ∙ is in
-          let g = sym f ∙ greets in cc)
-      each (suc i) e at greets = least.0 i e at greets
+      each : (i : ℕ) (e : C × Held) → slice_get (x ∷ es) i ≡ Some e → is_timed e.1.phase ≡ true →
+          r ≤ due greeting silence e.1
+      each zero e at timed = absurd (let f = sym (ap (λ o. is_timed (unwrap_or o x).1.phase) at) ∙ is in
+          let g = sym f ∙ timed in cc)
+      each (suc i) e at timed = least.0 i e at timed
 
       one : Has (x ∷ es) r ⊎ (next ≡ Some r)
       one = elim least.2 [ inl has ↦ inl (later x es r has) | inr e ↦ inr e ]
 
   least_of : (es : List (C × Held)) (next : Option ℕ) →
-      IsLeast es next (least_due within next (values_of es))
+      IsLeast es next (least_due greeting silence next (values_of es))
   least_of [] None = (refl, λ i e at. absurd cc)
   least_of [] (Some m) = (
-    λ i e at greets. absurd cc,
+    λ i e at timed. absurd cc,
     λ n is. omega (arith, ap (λ o. unwrap_or o 0) is),
     inr refl,
   )
-  least_of (x ∷ es) next = step x es next (least_due within (sooner_of within next x.1) (values_of es))
-      (is_greeting x.1.phase) refl (least_of es (sooner_of within next x.1))
+  least_of (x ∷ es) next = step x es next (least_due greeting silence (sooner_of greeting silence next x.1) (values_of es))
+      (is_timed x.1.phase) refl (least_of es (sooner_of greeting silence next x.1))
 
 -- IN ORDER
 module _ {C : Type 0} {cmp : C → C → Ordering} (total : IsTotalOrder cmp) (links : List (C × Held))
@@ -175,17 +175,17 @@ module _ {C : Type 0} {cmp : C → C → Ordering} (total : IsTotalOrder cmp) (l
       go (Some e) f None is = absurd cc
       go None f None is = by f
 
-  pub least_found : (within : ℕ) (r : Option ℕ) → r ≡ least_due within None (values_of links) →
-      IsLeastDue cmp within links r
-  least_found within r is =
-      go r (subst (IsLeast within links None) (sym is) (least_of within links None))
+  pub least_found : (greeting silence : ℕ) (r : Option ℕ) → r ≡ least_due greeting silence None (values_of links) →
+      IsLeastDue cmp greeting silence links r
+  least_found greeting silence r is =
+      go r (subst (IsLeast greeting silence links None) (sym is) (least_of greeting silence links None))
     where
-      go : (r : Option ℕ) → IsLeast within links None r → IsLeastDue cmp within links r
+      go : (r : Option ℕ) → IsLeast greeting silence links None r → IsLeastDue cmp greeting silence links r
       go None least = λ q h has. let at = place_from_lookup (is_at (cmp q)) links h has in
           least.1 at.0 (at.1, h) at.2
       go (Some r) least = (
-        λ q h has greets. let at = place_from_lookup (is_at (cmp q)) links h has in
-            least.0 at.0 (at.1, h) at.2 greets,
+        λ q h has timed. let at = place_from_lookup (is_at (cmp q)) links h has in
+            least.0 at.0 (at.1, h) at.2 timed,
         elim least.2 [
           | inl has ↦ (has.1.0, has.1.1, placed has.0 has.1 has.2, has.3, has.4)
           | inr e ↦ absurd cc

@@ -1,12 +1,13 @@
 -- The moments of the calls of a node that a driver makes never go back.
-use Rattle.std.proofs.Common.{◌≡◌, ℕ, ◌≤◌, List, [], ◌∷◌, Option, Some, None, refl, sym, ◌∙◌, ap, subst}
+use Rattle.std.proofs.Common.{◌≡◌, ℕ, ◌≤◌, List, [], ◌∷◌, ◌++◌, Option, Some, None, refl, sym, ◌∙◌, ap, subst}
 use Rattle.std.proofs.Common.{arith}
 use Rattle.std.specs.Duration.{as_nanos}
 use Rattle.std.specs.declared.time.Duration.{Duration}
 use Rattle.p2p_tracker.specs.Calls.{Settings, Call, moment_of}
 use Rattle.p2p_tracker.specs.History.{last_with, found_with}
 use Rattle.p2p_directory.specs.Laws.Grants.{NeverGoBack, or_now}
-use Rattle.p2p_driver.specs.Happenings.{Happening, time_by, latest_at, latest_of, calls_of}
+use Rattle.p2p_driver.specs.Frames.{Outcome}
+use Rattle.p2p_driver.specs.Happenings.{Happening, time_by, latest_at, latest_of, calls_of, calls_for}
 use Rattle.p2p_driver.specs.Drivers.{Base, AreRight}
 
 module _ {C S : Type 0} (s : Settings C S) where
@@ -41,6 +42,19 @@ module _ {C S : Type 0} (b : Base C S) where
   on : (h : List (Happening C S)) → NeverGoBack d (latest_at h) (calls_of h) → (t : ℕ) → latest_at h ≤ t → NeverGoBack d t (calls_of h)
   on h back t after = later_back d (calls_of h) (latest_at h) t after back
 
+  -- the calls since a peer was heard have no moment but a block's, which is that
+  heard : (q : C) (t : Duration) (outcome : Outcome C S) (cs : List (Call C S)) → NeverGoBack d (as_nanos t) cs →
+      NeverGoBack d (as_nanos t) (calls_for q t outcome ++ cs)
+  heard q t (Outcome.Waits waiting) cs before = before
+  heard q t (Outcome.Greets info question) cs before = (at_most (as_nanos t), (at_most (as_nanos t), before))
+  heard q t (Outcome.Takes infos) cs before = (at_most (as_nanos t), before)
+  heard q t (Outcome.Answers reply) cs before = before
+  heard q t (Outcome.Delivers message) cs before = before
+  heard q t Outcome.Ignores cs before = before
+  heard q t (Outcome.Breaks breach (Some taken)) cs before = (at_most (as_nanos t), before)
+  heard q t (Outcome.Breaks breach None) cs before = before
+  heard q t Outcome.IsEarly cs before = before
+
   pub in_time : (h : List (Happening C S)) → AreRight b h → NeverGoBack d (latest_at h) (calls_of h)
   in_time [] right = tt
   in_time (Happening.Arrived n origin t space ∷ h) right = on h (in_time h right.2) (as_nanos t) right.1
@@ -57,6 +71,11 @@ module _ {C S : Type 0} (b : Base C S) where
       (latest_kept (Happening.StaleSetCame index primary secondary) h refl) (at_most (latest_at h), in_time h right.2)
   in_time (Happening.StreamLate n t ∷ h) right = on h (in_time h right.2) (as_nanos t) right.1
   in_time (Happening.LinkLate n q t ∷ h) right = on h (in_time h right.2) (as_nanos t) right.1
+  in_time (Happening.Heard n q t owed cause outcome ∷ h) right =
+      heard q t outcome (calls_of h) (on h (in_time h right.2) (as_nanos t) right.1)
+  in_time (Happening.Given infos t ∷ h) right = (at_most (as_nanos t), on h (in_time h right.2) (as_nanos t) right.1)
+  in_time (Happening.Barred q t taken ∷ h) right = (at_most (as_nanos t), on h (in_time h right.2) (as_nanos t) right.1)
+  in_time (Happening.Parted q t ∷ h) right = on h (in_time h right.2) (as_nanos t) right.1
   in_time (Happening.Passed t ∷ h) right =
       (at_most (as_nanos t), (at_most (as_nanos t), on h (in_time h right.2) (as_nanos t) right.1))
   in_time (Happening.Taken action ∷ h) right =

@@ -14,6 +14,7 @@ mod StreamHistory
 mod LinkHistory
 mod Unused
 mod Standing
+mod Status
 mod Driving
 mod DrivingSets
 mod DrivingTimers
@@ -24,4 +25,16 @@ mod Closed
 mod Budget
 mod Numbers
 mod DrivingLinks
+mod DrivingApplication
+mod DrivingFrames
+mod DrivingVerdicts
+mod Payloads
+mod Reserved
+mod Judging
 mod Claims
+mod Waiting
+mod Greeted
+mod Beginnings
+mod Causes
+mod Asked
+mod Shown

@@ -1,6 +1,6 @@
 -- The links of peers after one more happening, and what was said.
-use Rattle.std.proofs.Common.{◌≡◌, ℕ, Bool, true, false, ◌||◌, List, [], ◌∷◌, ◌++◌, Option, Some, None, refl, sym, ◌∙◌, ap}
-use Rattle.std.specs.Prelude.{if◌then◌else◌}
+use Rattle.std.proofs.Common.{◌≡◌, ℕ, Bool, true, false, not, ◌||◌, ◌&&◌, List, [], ◌∷◌, ◌++◌, Option, Some, None, refl, sym, ◌∙◌, ap}
+use Rattle.std.specs.Prelude.{if◌then◌else◌, option_map}
 use Rattle.std.specs.List.{list_any}
 use Rattle.std.specs.declared.time.Duration.{Duration}
 use Rattle.std.proofs.lemmas.List.{append-nil, append_assoc}
@@ -9,14 +9,15 @@ use Rattle.p2p_tracker.specs.History.{same, last_with, found_with}
 use Rattle.p2p_driver.specs.declared.links.Held.{Held}
 use Rattle.p2p_driver.specs.declared.links.Phase.{Phase}
 use Rattle.p2p_driver.specs.declared.links.Phase.TheVariants as phase
-use Rattle.p2p_driver.specs.Happenings.{Happening, link_at, link_since, opened_by, ends_by, closes_by, greets_by, phase_of}
+use Rattle.p2p_driver.specs.declared.links.Waiting.{Waiting}
+use Rattle.p2p_driver.specs.Frames.{Cause, Outcome, waiting_by}
+use Rattle.p2p_driver.specs.Happenings.{Happening, link_at, link_since, opened_by, ends_by, closes_by, greets_by, heard_by, phase_of, kept_of, last_heard, is_closing, is_greeted, heard_as}
+use Rattle.p2p_driver.specs.Links.{link_with, greeted, waiting_in, hearing, opened, closed}
 
 -- a phase once the link was closed, or greeted on
 abbrev pub phase_after : Bool → Bool → Phase → Phase
 phase_after true greets p = phase.Closing
-phase_after false true phase.Greeting = phase.Open
-phase_after false true phase.Open = phase.Open
-phase_after false true phase.Closing = phase.Closing
+phase_after false true p = greeted p
 phase_after false false p = p
 
 phase_step : (c cs g gs : Bool) → phase_of (c || cs) (g || gs) ≡ phase_after c g (phase_of cs gs)
@@ -27,68 +28,199 @@ phase_step false false true true = refl
 phase_step false false true false = refl
 phase_step false false false gs = refl
 
--- a link once it ended, was closed, or greeted on
-abbrev pub link_after : Bool → Bool → Bool → Option Held → Option Held
-link_after ends closes greets None = None
-link_after true closes greets (Some held) = None
-link_after false closes greets (Some held) = Some (record held { phase = phase_after closes greets held.phase })
+-- a phase tells whether the peer has greeted, unless it is closing
+pub of_greeting : (c g : Bool) → phase_of c g ≡ phase.Greeting → g ≡ false
+of_greeting true g is = absurd cc
+of_greeting false true is = absurd cc
+of_greeting false false is = refl
 
-pub unchanged_link : (o : Option Held) → link_after false false false o ≡ o
+pub of_open : (c g : Bool) → phase_of c g ≡ phase.Open → g ≡ true
+of_open true g is = absurd cc
+of_open false true is = refl
+of_open false false is = absurd cc
+
+-- what one happening does to a link: it is closed, its peer greets, or is heard
+pub record Touch : Type 0 where
+  pub closes : Bool
+  pub greets : Bool
+  pub heard : Option (Duration × ℕ × Option Waiting)
+
+-- nothing
+abbrev pub untouched : Touch
+untouched = record { closes = false; greets = false; heard = None }
+
+-- it is closed, or not
+abbrev pub closing_if : Bool → Touch
+closing_if b = record { closes = b; greets = false; heard = None }
+
+-- when its peer was heard last, how much is owed, and what waits
+abbrev pub last_after : Option (Duration × ℕ × Option Waiting) → Duration × ℕ × Option Waiting → Duration × ℕ × Option Waiting
+last_after None last = last
+last_after (Some heard) last = heard
+
+abbrev pub waiting_after : Option (Duration × ℕ × Option Waiting) → Bool → Phase → Option Waiting → Option Waiting
+waiting_after None closes ph waiting = if closes then None else waiting
+waiting_after (Some heard) closes ph waiting = waiting_in ph heard.2
+
+abbrev pub touched : Touch → Held → Held
+touched touch held = record {
+  number = held.number;
+  phase = phase_after touch.closes touch.greets held.phase;
+  since = held.since;
+  heard = (last_after touch.heard (held.heard, held.owed, held.waiting)).0;
+  owed = (last_after touch.heard (held.heard, held.owed, held.waiting)).1;
+  waiting = waiting_after touch.heard touch.closes (phase_after touch.closes touch.greets held.phase) held.waiting;
+}
+
+-- a link once it ended, was closed, greeted on, or heard
+abbrev pub link_after : Bool → Touch → Option Held → Option Held
+link_after ends touch None = None
+link_after true touch (Some held) = None
+link_after false touch (Some held) = Some (touched touch held)
+
+pub unchanged_link : (o : Option Held) → link_after false untouched o ≡ o
 unchanged_link None = refl
 unchanged_link (Some held) = refl
 
-pub ended_link : (b : Bool) (o : Option Held) → link_after b false false o ≡ (if b then None else o)
+pub ended_link : (b : Bool) (o : Option Held) → link_after b untouched o ≡ (if b then None else o)
 ended_link true None = refl
 ended_link true (Some held) = refl
 ended_link false o = unchanged_link o
 
-module _ {C S : Type 0} (s : Settings C S) where
-  later : (p : C) (e : Happening C S) (found : Option ((ℕ × Duration) × List (Happening C S))) →
-      link_since s p (found_with None e found)
-      ≡ link_after (ends_by s p e) (closes_by s p e) (greets_by s p e) (link_since s p found)
-  later p e None = refl
-  later p e (Some found) = go _ _ (ends_by s p e) (list_any (ends_by s p) found.1)
-      (phase_step (closes_by s p e) (list_any (closes_by s p) found.1) (greets_by s p e) (list_any (greets_by s p) found.1))
-    where
-      at : Phase → Option Held
-      at ph = Some (record { number = found.0.0; phase = ph; since = found.0.1 })
+-- closed, or not
+pub closed_link : (b : Bool) (o : Option Held) → link_after false (closing_if b) o ≡ (if b then option_map closed o else o)
+closed_link true None = refl
+closed_link true (Some held) = refl
+closed_link false o = unchanged_link o
 
-      go : (ph2 ph : Phase) (ends ended : Bool) → ph2 ≡ phase_after (closes_by s p e) (greets_by s p e) ph →
-          (if ends || ended then None else at ph2)
-          ≡ link_after ends (closes_by s p e) (greets_by s p e) (if ended then None else at ph)
-      go ph2 ph true true is = refl
-      go ph2 ph true false is = refl
-      go ph2 ph false true is = refl
-      go ph2 ph false false is = ap at is
+-- .. or greeted on
+pub opened_link : (b : Bool) (t : Duration) (owed : ℕ) (o : Option Held) →
+    link_after false (record { closes = false; greets = b; heard = if b then Some (t, owed, None) else None }) o
+    ≡ (if b then option_map (opened t owed) o else o)
+opened_link true t owed None = refl
+opened_link true t owed (Some held) = ap (λ w. Some (record held { phase = greeted held.phase; heard = t; owed = owed; waiting = w }))
+    (none (greeted held.phase))
+  where
+    none : (ph : Phase) → waiting_in ph None ≡ None
+    none phase.Greeting = refl
+    none phase.Open = refl
+    none phase.Closing = refl
+opened_link false t owed o = unchanged_link o
+
+-- .. or heard
+pub heard_link : (b : Bool) (t : Duration) (owed : ℕ) (w : Option Waiting) (o : Option Held) →
+    link_after false (record { closes = false; greets = false; heard = if b then Some (t, owed, w) else None }) o
+    ≡ (if b then option_map (hearing t owed w) o else o)
+heard_link true t owed w None = refl
+heard_link true t owed w (Some held) = refl
+heard_link false t owed w o = unchanged_link o
+
+-- by what came of it
+pub outcome_link : {C S : Type 0} (b : Bool) (t : Duration) (owed : ℕ) (outcome : Outcome C S) (o : Option Held) →
+    link_after false (record {
+      closes = is_closing outcome && b;
+      greets = is_greeted outcome && b;
+      heard = if not (is_closing outcome) && b then Some (t, owed, waiting_by outcome) else None;
+    }) o ≡ (if b then option_map (heard_as t owed outcome) o else o)
+outcome_link b t owed (Outcome.Waits waiting) o = heard_link b t owed (Some waiting) o
+outcome_link b t owed (Outcome.Greets info question) o = opened_link b t owed o
+outcome_link b t owed (Outcome.Takes infos) o = heard_link b t owed None o
+outcome_link b t owed (Outcome.Answers reply) o = heard_link b t owed None o
+outcome_link b t owed (Outcome.Delivers message) o = heard_link b t owed None o
+outcome_link b t owed Outcome.Ignores o = heard_link b t owed None o
+outcome_link b t owed (Outcome.Breaks breach blocked) o = closed_link b o
+outcome_link b t owed Outcome.IsEarly o = closed_link b o
+
+-- what is kept of a link, by how far it is and how its peer was heard last
+abbrev kept_with : ℕ → Duration → Phase → Duration × ℕ × Option Waiting → Held
+kept_with n t ph last = record {
+  number = n;
+  phase = ph;
+  since = t;
+  heard = last.0;
+  owed = last.1;
+  waiting = waiting_in ph last.2;
+}
+
+kept_step : (n : ℕ) (t : Duration) (c g : Bool) (heard : Option (Duration × ℕ × Option Waiting)) (ph : Phase)
+    (last : Duration × ℕ × Option Waiting) →
+    kept_with n t (phase_after c g ph) (last_after heard last)
+    ≡ touched (record { closes = c; greets = g; heard = heard }) (kept_with n t ph last)
+kept_step n t c g (Some heard) ph last = refl
+kept_step n t true g None ph last = refl
+kept_step n t false true None phase.Greeting last = refl
+kept_step n t false true None phase.Open last = refl
+kept_step n t false true None phase.Closing last = refl
+kept_step n t false false None ph last = refl
+
+module _ {C S : Type 0} (s : Settings C S) where
+  -- what a happening does to the link of p
+  abbrev pub touch_by : C → Happening C S → Touch
+  touch_by p e = record { closes = closes_by s p e; greets = greets_by s p e; heard = heard_by s p e }
+
+  last_step : (t : Duration) (e : Happening C S) (heard : Option (Duration × ℕ × Option Waiting))
+      (found : Option ((Duration × ℕ × Option Waiting) × List (Happening C S))) →
+      last_heard s t (found_with heard e found) ≡ last_after heard (last_heard s t found)
+  last_step t e (Some heard) found = refl
+  last_step t e None None = refl
+  last_step t e None (Some found) = refl
+
+  kept_later : (p : C) (e : Happening C S) (n : ℕ) (t : Duration) (since : List (Happening C S)) →
+      kept_of s p n t (e ∷ since) ≡ touched (touch_by p e) (kept_of s p n t since)
+  kept_later p e n t since = ap (λ ph. kept_with n t ph (last_heard s t (last_with (heard_by s p) (e ∷ since))))
+      (phase_step (closes_by s p e) (list_any (closes_by s p) since) (greets_by s p e) (list_any (greets_by s p) since))
+      ∙ ap (kept_with n t (phase_after (closes_by s p e) (greets_by s p e)
+      (phase_of (list_any (closes_by s p) since) (list_any (greets_by s p) since))))
+      (last_step t e (heard_by s p e) (last_with (heard_by s p) since))
+      ∙ kept_step n t (closes_by s p e) (greets_by s p e) (heard_by s p e)
+      (phase_of (list_any (closes_by s p) since) (list_any (greets_by s p) since))
+      (last_heard s t (last_with (heard_by s p) since))
+
+  later : (p : C) (e : Happening C S) (found : Option ((ℕ × Duration) × List (Happening C S))) →
+      link_since s p (found_with None e found) ≡ link_after (ends_by s p e) (touch_by p e) (link_since s p found)
+  later p e None = refl
+  later p e (Some found) = go (ends_by s p e) (list_any (ends_by s p) found.1) (kept_later p e found.0.0 found.0.1 found.1)
+    where
+      go : (ends ended : Bool) → kept_of s p found.0.0 found.0.1 (e ∷ found.1) ≡ touched (touch_by p e) (kept_of s p found.0.0 found.0.1 found.1) →
+          (if ends || ended then None else Some (kept_of s p found.0.0 found.0.1 (e ∷ found.1)))
+          ≡ link_after ends (touch_by p e) (if ended then None else Some (kept_of s p found.0.0 found.0.1 found.1))
+      go true true is = refl
+      go true false is = refl
+      go false true is = refl
+      go false false is = ap (λ (held : Held). Some held) is
 
   -- one more happening by which no link of p began
   pub link_later : (p : C) (e : Happening C S) (h : List (Happening C S)) → opened_by s p e ≡ None →
-      link_at s p (e ∷ h) ≡ link_after (ends_by s p e) (closes_by s p e) (greets_by s p e) (link_at s p h)
+      link_at s p (e ∷ h) ≡ link_after (ends_by s p e) (touch_by p e) (link_at s p h)
   link_later p e h none = ap (λ o. link_since s p (found_with o e (last_with (opened_by s p) h))) none
       ∙ later p e (last_with (opened_by s p) h)
 
   -- one that has nothing to do with it
   pub link_stays : (p : C) (e : Happening C S) (h : List (Happening C S)) → opened_by s p e ≡ None →
-      ends_by s p e ≡ false → closes_by s p e ≡ false → greets_by s p e ≡ false →
-      link_at s p (e ∷ h) ≡ link_at s p h
-  link_stays p e h opened ends closes greets = link_later p e h opened
-      ∙ ap (λ b. link_after b (closes_by s p e) (greets_by s p e) (link_at s p h)) ends
-      ∙ ap (λ b. link_after false b (greets_by s p e) (link_at s p h)) closes
-      ∙ ap (λ b. link_after false false b (link_at s p h)) greets
+      ends_by s p e ≡ false → touch_by p e ≡ untouched → link_at s p (e ∷ h) ≡ link_at s p h
+  link_stays p e h opened ends touch = link_later p e h opened
+      ∙ ap (λ b. link_after b (touch_by p e) (link_at s p h)) ends
+      ∙ ap (λ x. link_after false x (link_at s p h)) touch
       ∙ unchanged_link (link_at s p h)
 
   -- one by which a link of q began
   pub link_opens : (p q : C) (n : ℕ) (t draw : Duration) (h : List (Happening C S)) →
-      link_at s p (Happening.Proved n q t draw ∷ h) ≡ (if same s q p
-      then Some (record { number = n; phase = phase.Greeting; since = t }) else link_at s p h)
+      link_at s p (Happening.Proved n q t draw ∷ h) ≡ (if same s q p then Some (link_with n t) else link_at s p h)
   link_opens p q n t draw h = go (same s q p)
     where
       go : (b : Bool) → link_since s p (found_with (if b then Some (n, t) else None)
           (Happening.Proved n q t draw) (last_with (opened_by s p) h))
-          ≡ (if b then Some (record { number = n; phase = phase.Greeting; since = t }) else link_at s p h)
+          ≡ (if b then Some (link_with n t) else link_at s p h)
       go true = refl
       go false = later p (Happening.Proved n q t draw) (last_with (opened_by s p) h)
           ∙ unchanged_link (link_at s p h)
+
+  -- one by which the peer q of a link was heard
+  pub link_hears : (p q : C) (n : ℕ) (t : Duration) (owed : ℕ) (cause : Cause) (outcome : Outcome C S)
+      (h : List (Happening C S)) → link_at s p (Happening.Heard n q t owed cause outcome ∷ h)
+      ≡ (if same s q p then option_map (heard_as t owed outcome) (link_at s p h) else link_at s p h)
+  link_hears p q n t owed cause outcome h = link_later p (Happening.Heard n q t owed cause outcome) h refl
+      ∙ outcome_link (same s q p) t owed outcome (link_at s p h)
 
 -- WHAT WAS SAID
 

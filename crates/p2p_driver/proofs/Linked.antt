@@ -4,6 +4,7 @@ use Rattle.std.proofs.Common.{Option, Some, None, refl, sym, ◌∙◌, ap, subs
 use Rattle.std.proofs.Common.{Less, Equal, Greater, inl, inr}
 use Rattle.std.specs.Prelude.{IfSome, IfNone, option_map, unwrap_or, length, if◌then◌else◌}
 use Rattle.std.specs.declared.cmp.Ordering.{Ordering}
+use Rattle.std.specs.declared.time.Duration.{Duration}
 use Rattle.std.specs.BTreeMap.{is_at, insert_entry}
 use Rattle.std.specs.Cmp.{IsTotalOrder, IsEquivalence, eq_by_cmp_equiv}
 use Rattle.std.specs.HashMap.Eq.{lookup_congr}
@@ -19,7 +20,8 @@ use Rattle.std.proofs.lemmas.Map.Entries.{sum_by-remove_entry, sum_by-set_value,
 use Rattle.p2p_driver.specs.declared.links.Held.{Held}
 use Rattle.p2p_driver.specs.declared.links.Phase.{Phase}
 use Rattle.p2p_driver.specs.declared.links.Phase.TheVariants as phase
-use Rattle.p2p_driver.specs.Links.{link_of, need_of, need_at, needs, greeted, is_greeting, one_if_greeting, opened, closed}
+use Rattle.p2p_driver.specs.declared.links.Waiting.{Waiting}
+use Rattle.p2p_driver.specs.Links.{link_of, need_of, need_at, needs, greeted, is_greeting, one_if_greeting, opened, hearing, closed}
 use Rattle.p2p_driver.specs.Links.{AreInverse, AreNumbered, AreAlike}
 
 -- a number is equal to itself
@@ -107,14 +109,21 @@ module _ {C : Type 0} {cmp : C → C → Ordering} (total : IsTotalOrder cmp) wh
   once_greeted phase.Open = refl
   once_greeted phase.Closing = refl
 
-  pub needs_opened : (links new : List (C × Held)) (peer : C) (held : Held) →
+  pub needs_opened : (t : Duration) (owed : ℕ) (links new : List (C × Held)) (peer : C) (held : Held) →
       link_of cmp links peer ≡ Some held →
-      new ≡ set_value (is_at (cmp peer)) links (opened held) →
+      new ≡ set_value (is_at (cmp peer)) links (opened t owed held) →
       needs new ≡ needs links + one_if_greeting (link_of cmp links peer)
-  needs_opened links new peer held has is =
+  needs_opened t owed links new peer held has is =
       let e : one_if_greeting (link_of cmp links peer) ≡ (if is_greeting held.phase then 1 else 0) =
       ap one_if_greeting has in
-      omega (arith, written_needs links new opened peer held has is, once_greeted held.phase)
+      omega (arith, written_needs links new (opened t owed) peer held has is, once_greeted held.phase)
+
+  pub needs_heard : (t : Duration) (owed : ℕ) (waiting : Option Waiting) (links new : List (C × Held)) (peer : C) (held : Held) →
+      link_of cmp links peer ≡ Some held →
+      new ≡ set_value (is_at (cmp peer)) links (hearing t owed waiting held) →
+      needs new ≡ needs links
+  needs_heard t owed waiting links new peer held has is =
+      omega (arith, written_needs links new (hearing t owed waiting) peer held has is)
 
   pub needs_put : (links new : List (C × Held)) (peer : C) (held : Held) →
       IsStrictlySortedBy cmp (keys_of links) → link_of cmp links peer ≡ None →

@@ -10,13 +10,13 @@ use Rattle.p2p_tracker.specs.Calls.{Settings}
 use Rattle.p2p_tracker.specs.History.{same}
 use Rattle.p2p_driver.specs.declared.arrivals.Arrival.{Arrival}
 use Rattle.p2p_driver.specs.declared.links.Held.{Held}
-use Rattle.p2p_driver.specs.declared.links.Phase.TheVariants as phase
 use Rattle.p2p_driver.specs.declared.origin.Origin.{Origin}
 use Rattle.p2p_driver.specs.Arrivals.{has_number}
-use Rattle.p2p_driver.specs.Happenings.{Happening, next_at, stream_at, came_by, leaves_by, claim_by, opened_by, ends_by, closes_by, greets_by, is_new}
+use Rattle.p2p_driver.specs.Happenings.{Happening, next_at, stream_at, came_by, leaves_by, claim_by, opened_by, ends_by, is_new}
+use Rattle.p2p_driver.specs.Links.{link_with}
 use Rattle.p2p_driver.specs.Drivers.{Base, AreRight, Rise, link, is_claimed, is_claim_by}
 use Rattle.p2p_driver.proofs.Budget.{streams_of}
-use Rattle.p2p_driver.proofs.LinkHistory.{link_after, link_later, link_opens}
+use Rattle.p2p_driver.proofs.LinkHistory.{Touch, touch_by, link_after, link_later, link_opens}
 use Rattle.p2p_driver.proofs.StreamHistory.{stream_after, stream_later, next_stays, next_rises}
 
 some_is : {A : Type 0} {x y : A} → Some x ≡ Some y → x ≡ y
@@ -26,11 +26,11 @@ no_link : (g : Held) → ¬ (None ≡ Some g)
 no_link g is = cc
 
 -- a link that is there was there before, of the same number
-before : (ends closes greets : Bool) (o : Option Held) (g : Held) → link_after ends closes greets o ≡ Some g →
+before : (ends : Bool) (touch : Touch) (o : Option Held) (g : Held) → link_after ends touch o ≡ Some g →
     (g0 : Held) × (o ≡ Some g0) × (g0.number ≡ g.number)
-before ends closes greets None g is = absurd cc
-before true closes greets (Some held) g is = absurd cc
-before false closes greets (Some held) g is = (held, refl, ap (λ (x : Held). x.number) (some_is is))
+before ends touch None g is = absurd cc
+before true touch (Some held) g is = absurd cc
+before false touch (Some held) g is = (held, refl, ap (λ (x : Held). x.number) (some_is is))
 
 module _ {C : Type 0} where
   -- a number that is found is below the last
@@ -91,7 +91,7 @@ module _ {C S : Type 0} (b : Base C S) where
       ((g : Held) → link b p h ≡ Some g → IsOver h g.number) →
       (g : Held) → link b p (e ∷ h) ≡ Some g → IsOver (e ∷ h) g.number
   step e h p opens none over g is =
-      let was = before (ends_by d p e) (closes_by d p e) (greets_by d p e) (link b p h) g (sym (link_later d p e h opens) ∙ is) in
+      let was = before (ends_by d p e) (touch_by d p e) (link b p h) g (sym (link_later d p e h opens) ∙ is) in
       let was_over = over was.0 was.1 in
       subst (IsOver (e ∷ h)) was.2 (still_over e h was.0.number (none was.0.number was_over.1) was_over)
 
@@ -119,7 +119,7 @@ module _ {C S : Type 0} (b : Base C S) where
       there : is_some (stream_at n h) ≡ true
       there = claimed_is_there h n r right.0.0
 
-      go : (x : Bool) → (if x then Some (record { number = n; phase = phase.Greeting; since = t }) else link b p h) ≡ Some g →
+      go : (x : Bool) → (if x then Some (link_with n t) else link b p h) ≡ Some g →
           (link b p h ≡ Some g → IsOver h g.number) → IsOver (e ∷ h) g.number
       go true is rest = subst (IsOver (e ∷ h)) (ap (λ (x : Held). x.number) (some_is is)) (
         stream_later n e h refl ∙ ap (λ x. stream_after x None (stream_at n h)) itself ∙ gone (stream_at n h),
@@ -137,6 +137,10 @@ module _ {C S : Type 0} (b : Base C S) where
   over (Happening.StaleSetCame index primary secondary ∷ h) right p g is = step (Happening.StaleSetCame index primary secondary) h p refl (λ n below. refl) (λ g is. over h right.2 p g is) g is
   over (Happening.StreamLate n t ∷ h) right p g is = step (Happening.StreamLate n t) h p refl (λ n below. refl) (λ g is. over h right.2 p g is) g is
   over (Happening.LinkLate n r t ∷ h) right p g is = step (Happening.LinkLate n r t) h p refl (λ n below. refl) (λ g is. over h right.2 p g is) g is
+  over (Happening.Heard n r t owed cause outcome ∷ h) right p g is = step (Happening.Heard n r t owed cause outcome) h p refl (λ n below. refl) (λ g is. over h right.2 p g is) g is
+  over (Happening.Given infos t ∷ h) right p g is = step (Happening.Given infos t) h p refl (λ n below. refl) (λ g is. over h right.2 p g is) g is
+  over (Happening.Barred r t taken ∷ h) right p g is = step (Happening.Barred r t taken) h p refl (λ n below. refl) (λ g is. over h right.2 p g is) g is
+  over (Happening.Parted r t ∷ h) right p g is = step (Happening.Parted r t) h p refl (λ n below. refl) (λ g is. over h right.2 p g is) g is
   over (Happening.Passed t ∷ h) right p g is = step (Happening.Passed t) h p refl (λ n below. refl) (λ g is. over h right.2 p g is) g is
   over (Happening.Taken action ∷ h) right p g is = step (Happening.Taken action) h p refl (λ n below. refl) (λ g is. over h right.2 p g is) g is
 
@@ -147,8 +151,8 @@ module _ {C S : Type 0} (b : Base C S) where
 
     still : (e : Happening C S) (h : List (Happening C S)) → ((p : C) → opened_by d p e ≡ None) → AreNumbered h → AreNumbered (e ∷ h)
     still e h opens one p q g k of_p of_q is =
-        let at_p = before (ends_by d p e) (closes_by d p e) (greets_by d p e) (link b p h) g (sym (link_later d p e h (opens p)) ∙ of_p) in
-        let at_q = before (ends_by d q e) (closes_by d q e) (greets_by d q e) (link b q h) k (sym (link_later d q e h (opens q)) ∙ of_q) in
+        let at_p = before (ends_by d p e) (touch_by d p e) (link b p h) g (sym (link_later d p e h (opens p)) ∙ of_p) in
+        let at_q = before (ends_by d q e) (touch_by d q e) (link b q h) k (sym (link_later d q e h (opens q)) ∙ of_q) in
         one p q at_p.0 at_q.0 at_p.1 at_q.1 (at_p.2 ∙ is ∙ sym at_q.2)
 
     opened : (n : ℕ) (r : C) (t draw : Duration) (h : List (Happening C S)) → is_some (stream_at n h) ≡ true →
@@ -157,7 +161,7 @@ module _ {C S : Type 0} (b : Base C S) where
         go (same d r p) (same d r q) refl refl (sym (link_opens d p r n t draw h) ∙ of_p) (sym (link_opens d q r n t draw h) ∙ of_q)
       where
         new : Held
-        new = record { number = n; phase = phase.Greeting; since = t }
+        new = link_with n t
 
         number_is : (x : Held) → Some new ≡ Some x → n ≡ x.number
         number_is x is = ap (λ (y : Held). y.number) (some_is is)
@@ -185,5 +189,9 @@ module _ {C S : Type 0} (b : Base C S) where
     one_number (Happening.StaleSetCame index primary secondary ∷ h) right = still (Happening.StaleSetCame index primary secondary) h (λ p. refl) (one_number h right.2)
     one_number (Happening.StreamLate n t ∷ h) right = still (Happening.StreamLate n t) h (λ p. refl) (one_number h right.2)
     one_number (Happening.LinkLate n r t ∷ h) right = still (Happening.LinkLate n r t) h (λ p. refl) (one_number h right.2)
+    one_number (Happening.Heard n r t owed cause outcome ∷ h) right = still (Happening.Heard n r t owed cause outcome) h (λ p. refl) (one_number h right.2)
+    one_number (Happening.Given infos t ∷ h) right = still (Happening.Given infos t) h (λ p. refl) (one_number h right.2)
+    one_number (Happening.Barred r t taken ∷ h) right = still (Happening.Barred r t taken) h (λ p. refl) (one_number h right.2)
+    one_number (Happening.Parted r t ∷ h) right = still (Happening.Parted r t) h (λ p. refl) (one_number h right.2)
     one_number (Happening.Passed t ∷ h) right = still (Happening.Passed t) h (λ p. refl) (one_number h right.2)
     one_number (Happening.Taken action ∷ h) right = still (Happening.Taken action) h (λ p. refl) (one_number h right.2)

@@ -7,14 +7,16 @@ use Rattle.std.specs.List.{count_by}
 use Rattle.std.specs.BTreeMap.{is_at}
 use Rattle.std.specs.declared.time.Duration.{Duration}
 use Rattle.std.proofs.lemmas.List.Sums.{sum_by-cons}
+use Rattle.p2p_discovery.specs.declared.discovery.Info.{Info}
 use Rattle.p2p_discovery.specs.Ordered.{has_key}
 use Rattle.p2p_tracker.specs.Calls.{Settings}
 use Rattle.p2p_tracker.specs.History.{found_with, last_with}
-use Rattle.p2p_tracker.specs.Calls.Call.{Track, Listen, Release, UnblockExpired, ForgetCooled}
+use Rattle.p2p_tracker.specs.Calls.Call.{Track, Listen, Release, Update, Block, UnblockExpired, ForgetCooled}
 use Rattle.p2p_directory.specs.Nodes.{NodeView, NodeStandsAt}
 use Rattle.p2p_driver.specs.Answers.{AnswersView, AreKept}
 use Rattle.p2p_driver.specs.Arrivals.{has_number, arrival_of, arrived, claimed, room_of}
-use Rattle.p2p_driver.specs.Happenings.{Happening, time_by, latest_at, latest_of, calls_of, calls_by, came_by, leaves_by, claim_by, is_new, answered_in, answered_by, is_proved, is_ended, link_at, opened_by, ends_by, closes_by, greets_by, said, says_by, taken, taken_by, crowded_out, sent, shut, shut_all, parted}
+use Rattle.p2p_driver.specs.Frames.{Cause, Outcome}
+use Rattle.p2p_driver.specs.Happenings.{Happening, time_by, latest_at, latest_of, calls_of, calls_by, came_by, leaves_by, claim_by, is_new, answered_in, answered_by, is_proved, is_ended, link_at, opened_by, ends_by, said, says_by, taken, taken_by, crowded_out, sent, shut, shut_all, parted, calls_for, heard_as, answered_on, why_late}
 use Rattle.p2p_driver.specs.Links.{link_of, link_with, closed}
 use Rattle.p2p_driver.specs.Drivers.{DriverView, Base, DriverStandsAt, IsRight, IsInTime, AreStreams, IsLinkOf}
 use Rattle.p2p_driver.specs.declared.actions.Action.{Action}
@@ -26,19 +28,13 @@ use Rattle.p2p_driver.specs.declared.origin.Origin.{Origin}
 use Rattle.std.proofs.lemmas.List.{append-nil}
 use Rattle.p2p_driver.proofs.Answered.{kept_at_later}
 use Rattle.p2p_driver.proofs.StreamHistory.{streams_stay, streams_leave, streams_claim, streams_come, next_stays, next_rises}
-use Rattle.p2p_driver.proofs.LinkHistory.{link_after, link_stays, link_later, link_opens, ended_link, unchanged_link, said_more, took_one}
+use Rattle.p2p_driver.proofs.LinkHistory.{touch_by, untouched, closing_if, link_after, link_stays, link_later, link_opens, link_hears, ended_link, closed_link, said_more, took_one}
 
 module _ {C S : Type 0} where
   -- how many are of a kind, with one more
   pub one_more : (p : Happening C S → Bool) (e : Happening C S) (h : List (Happening C S)) (b : Bool) → p e ≡ b →
       count_by p (e ∷ h) ≡ cond b 1 0 + count_by p h
   one_more p e h b is = sum_by-cons (λ e. cond (p e) 1 0) e h ∙ ap (λ b. cond b 1 0 + count_by p h) is
-
--- a link that was closed, or not
-closed_after : (b : Bool) (o : Option Held) → (if b then option_map closed o else o) ≡ link_after false b false o
-closed_after true None = refl
-closed_after true (Some held) = refl
-closed_after false o = sym (unchanged_link o)
 
 module _ {C S : Type 0} (b : Base C S) (h : List (Happening C S)) (v : DriverView C S)
     (at : DriverStandsAt b h v) where
@@ -55,10 +51,9 @@ module _ {C S : Type 0} (b : Base C S) (h : List (Happening C S)) (v : DriverVie
 
   -- links stay as they are
   links_stay : (e : Happening C S) → ((p : C) → opened_by d p e ≡ None) →
-      ((p : C) → ends_by d p e ≡ false) → ((p : C) → closes_by d p e ≡ false) →
-      ((p : C) → greets_by d p e ≡ false) → (p : C) → link_of d.cmp v.links p ≡ link_at d p (e ∷ h)
-  links_stay e opened ends closes greets p =
-      at.links p ∙ sym (link_stays d p e h (opened p) (ends p) (closes p) (greets p))
+      ((p : C) → ends_by d p e ≡ false) → ((p : C) → touch_by d p e ≡ untouched) →
+      (p : C) → link_of d.cmp v.links p ≡ link_at d p (e ∷ h)
+  links_stay e opened ends touch p = at.links p ∙ sym (link_stays d p e h (opened p) (ends p) (touch p))
 
   -- .. and as many
   count_stays : (e : Happening C S) → is_ended e ≡ false → is_proved e ≡ false →
@@ -98,7 +93,7 @@ module _ {C S : Type 0} (b : Base C S) (h : List (Happening C S)) (v : DriverVie
         (arrived (arrival_of n origin t) space v.arrivals)) (sym at.next)
         (streams_come origin t space h v.arrivals some at.arrivals);
     answers = answers_later (as_nanos t) after;
-    links = links_stay e (λ p. refl) (λ p. refl) (λ p. refl) (λ p. refl);
+    links = links_stay e (λ p. refl) (λ p. refl) (λ p. refl);
     count = count_stays e refl refl;
     actions = says (crowded_out space) e refl refl;
     right = (
@@ -135,7 +130,7 @@ module _ {C S : Type 0} (b : Base C S) (h : List (Happening C S)) (v : DriverVie
         next = at.next ∙ sym (next_stays e h refl);
         arrivals = streams_claim n p e h v.arrivals refl (λ j. refl) (λ j. refl) (λ j. refl) at.arrivals;
         answers = kept;
-        links = links_stay e (λ p. refl) (λ p. refl) (λ p. refl) (λ p. refl);
+        links = links_stay e (λ p. refl) (λ p. refl) (λ p. refl);
         count = count_stays e refl refl;
         actions = says_nothing e refl refl;
         right = (right, in_time (as_nanos t) after, at.right);
@@ -146,8 +141,7 @@ module _ {C S : Type 0} (b : Base C S) (h : List (Happening C S)) (v : DriverVie
       is_new e ≡ false → ((j : ℕ) → came_by j e ≡ None) → ((j : ℕ) → leaves_by j e ≡ (n == j)) →
       ((j : ℕ) → claim_by j e ≡ None) → answered_by e ≡ [] → calls_by e ≡ [] →
       ((p : C) → opened_by d p e ≡ None) → ((p : C) → ends_by d p e ≡ false) →
-      ((p : C) → closes_by d p e ≡ false) → ((p : C) → greets_by d p e ≡ false) →
-      is_ended e ≡ false → is_proved e ≡ false → time_by e ≡ Some t → taken_by e ≡ [] →
+      ((p : C) → touch_by d p e ≡ untouched) → is_ended e ≡ false → is_proved e ≡ false → time_by e ≡ Some t → taken_by e ≡ [] →
       says_by d b.greeting h e ≡ told → IsRight b h e → v.latest ≤ as_nanos t →
       AreKept b.pace (as_nanos t) (answered_in h) answers →
       DriverStandsAt b (e ∷ h) (record v {
@@ -156,7 +150,7 @@ module _ {C S : Type 0} (b : Base C S) (h : List (Happening C S)) (v : DriverVie
         answers = answers;
         actions = v.actions ++ told;
       })
-  goes n t e told answers new came leaves claim answered calls opened ends closes greets ended proved time none is right after kept = record {
+  goes n t e told answers new came leaves claim answered calls opened ends touch ended proved time none is right after kept = record {
     node = subst (λ cs. NodeStandsAt b.made (cs ++ calls_of h) v.node) (sym calls) at.node;
     pace = at.pace;
     greeting = at.greeting;
@@ -167,7 +161,7 @@ module _ {C S : Type 0} (b : Base C S) (h : List (Happening C S)) (v : DriverVie
     answers = subst (λ t. AreKept b.pace t (answered_in (e ∷ h)) answers)
         (sym (ap (λ o. latest_of (found_with o e (last_with time_by h))) time))
         (subst (λ cs. AreKept b.pace (as_nanos t) (cs ++ answered_in h) answers) (sym answered) kept);
-    links = links_stay e opened ends closes greets;
+    links = links_stay e opened ends touch;
     count = count_stays e ended proved;
     actions = says told e none is;
     right = (right, subst (IsInTime b h) (sym time) (in_time (as_nanos t) after), at.right);
@@ -236,15 +230,14 @@ module _ {C S : Type 0} (b : Base C S) (h : List (Happening C S)) (v : DriverVie
 
   -- links are closed
   links_closed : (e : Happening C S) (links : List (C × Held)) (q : C) (b : Bool) → opened_by d q e ≡ None →
-      ends_by d q e ≡ false → closes_by d q e ≡ b → greets_by d q e ≡ false →
+      ends_by d q e ≡ false → touch_by d q e ≡ closing_if b →
       link_of d.cmp links q ≡ (if b then option_map closed (link_of d.cmp v.links q) else link_of d.cmp v.links q) →
       link_of d.cmp links q ≡ link_at d q (e ∷ h)
-  links_closed e links q b opened ends closes greets tied = tied
-      ∙ ap (λ o. if b then option_map closed o else o) (at.links q) ∙ closed_after b (link_at d q h)
+  links_closed e links q b opened ends touch tied = tied
+      ∙ ap (λ o. if b then option_map closed o else o) (at.links q) ∙ sym (closed_link b (link_at d q h))
       ∙ sym (link_later d q e h opened
-      ∙ ap (λ x. link_after x (closes_by d q e) (greets_by d q e) (link_at d q h)) ends
-      ∙ ap (λ x. link_after false x (greets_by d q e) (link_at d q h)) closes
-      ∙ ap (λ x. link_after false b x (link_at d q h)) greets)
+      ∙ ap (λ x. link_after x (touch_by d q e) (link_at d q h)) ends
+      ∙ ap (λ x. link_after false x (link_at d q h)) touch)
 
   -- a set came that was accepted
   pub tears : (t : Duration) (index : ℕ) (primary secondary torn : List C) (node : NodeView C S) (links : List (C × Held)) (told : List (Action C)) →
@@ -268,7 +261,7 @@ module _ {C S : Type 0} (b : Base C S) (h : List (Happening C S)) (v : DriverVie
         next = at.next ∙ sym (next_stays e h refl);
         arrivals = streams_stay e h v.arrivals refl (λ j. refl) (λ j. refl) (λ j. refl) at.arrivals;
         answers = answers_later (as_nanos t) after;
-        links = λ q. links_closed e links q (has_key d.cmp torn q) refl refl refl refl (tied q);
+        links = λ q. links_closed e links q (has_key d.cmp torn q) refl refl refl (tied q);
         count = ap (λ k. k + count_by is_ended (e ∷ h)) same ∙ count_stays e refl refl;
         actions = says told e refl (sym (is ∙ ap (shut_all d.cmp torn) (λ i p. at.links p i)));
         right = (right, in_time (as_nanos t) after, at.right);
@@ -282,7 +275,7 @@ module _ {C S : Type 0} (b : Base C S) (h : List (Happening C S)) (v : DriverVie
       DriverStandsAt b (Happening.LinkLate n p t ∷ h) (record v {
         latest = as_nanos t;
         links = links;
-        actions = v.actions ++ shut p why.Slow (link_of d.cmp v.links p);
+        actions = v.actions ++ shut p (why_late (link_of d.cmp v.links p)) (link_of d.cmp v.links p);
       })
   lapses n p t links right after tied same = let e : Happening C S = Happening.LinkLate n p t in record {
     node = at.node;
@@ -293,9 +286,111 @@ module _ {C S : Type 0} (b : Base C S) (h : List (Happening C S)) (v : DriverVie
     next = at.next ∙ sym (next_stays e h refl);
     arrivals = streams_stay e h v.arrivals refl (λ j. refl) (λ j. refl) (λ j. refl) at.arrivals;
     answers = answers_later (as_nanos t) after;
-    links = λ q. links_closed e links q (is_at (d.cmp p) q) refl refl refl refl (tied q);
+    links = λ q. links_closed e links q (is_at (d.cmp p) q) refl refl refl (tied q);
     count = ap (λ k. k + count_by is_ended (e ∷ h)) same ∙ count_stays e refl refl;
-    actions = says (shut p why.Slow (link_of d.cmp v.links p)) e refl (ap (shut p why.Slow) (sym (at.links p)));
+    actions = says (shut p (why_late (link_of d.cmp v.links p)) (link_of d.cmp v.links p)) e refl
+        (ap (λ o. shut p (why_late o) o) (sym (at.links p)));
+    right = (right, in_time (as_nanos t) after, at.right);
+  }
+
+  -- the peer of a link was heard
+  pub hears : (n : ℕ) (p : C) (t : Duration) (owed : ℕ) (cause : Cause) (outcome : Outcome C S)
+      (node : NodeView C S) (links : List (C × Held)) →
+      IsRight b h (Happening.Heard n p t owed cause outcome) → v.latest ≤ as_nanos t →
+      NodeStandsAt b.made (calls_for p t outcome ++ calls_of h) node →
+      ((q : C) → link_of d.cmp links q ≡ (if is_at (d.cmp p) q then option_map (heard_as t owed outcome) (link_of d.cmp v.links q) else link_of d.cmp v.links q)) →
+      length links ≡ length v.links →
+      DriverStandsAt b (Happening.Heard n p t owed cause outcome ∷ h) (record v {
+        node = node;
+        latest = as_nanos t;
+        links = links;
+        actions = v.actions ++ answered_on n p outcome (link_of d.cmp v.links p);
+      })
+  hears n p t owed cause outcome node links right after made tied same =
+      let e : Happening C S = Happening.Heard n p t owed cause outcome in record {
+        node = made;
+        pace = at.pace;
+        greeting = at.greeting;
+        cooldown = at.cooldown;
+        latest = refl;
+        next = at.next ∙ sym (next_stays e h refl);
+        arrivals = streams_stay e h v.arrivals refl (λ j. refl) (λ j. refl) (λ j. refl) at.arrivals;
+        answers = answers_later (as_nanos t) after;
+        links = λ q. tied q ∙ ap (λ o. if is_at (d.cmp p) q then option_map (heard_as t owed outcome) o else o) (at.links q)
+            ∙ sym (link_hears d q p n t owed cause outcome h);
+        count = ap (λ k. k + count_by is_ended (e ∷ h)) same ∙ count_stays e refl refl;
+        actions = says (answered_on n p outcome (link_of d.cmp v.links p)) e refl (ap (answered_on n p outcome) (sym (at.links p)));
+        right = (right, in_time (as_nanos t) after, at.right);
+      }
+
+  -- infos came
+  pub gives : (infos : List (Info C S)) (t : Duration) (node : NodeView C S) → v.latest ≤ as_nanos t →
+      NodeStandsAt b.made (Update infos ∷ calls_of h) node →
+      DriverStandsAt b (Happening.Given infos t ∷ h) (record v { node = node; latest = as_nanos t })
+  gives infos t node after made = let e : Happening C S = Happening.Given infos t in record {
+    node = made;
+    pace = at.pace;
+    greeting = at.greeting;
+    cooldown = at.cooldown;
+    latest = refl;
+    next = at.next ∙ sym (next_stays e h refl);
+    arrivals = streams_stay e h v.arrivals refl (λ j. refl) (λ j. refl) (λ j. refl) at.arrivals;
+    answers = answers_later (as_nanos t) after;
+    links = links_stay e (λ p. refl) (λ p. refl) (λ p. refl);
+    count = count_stays e refl refl;
+    actions = says_nothing e refl refl;
+    right = (tt, in_time (as_nanos t) after, at.right);
+  }
+
+  -- a peer was blocked, and its link is closed
+  pub bars : (p : C) (t : Duration) (taken : Bool) (node : NodeView C S) (links : List (C × Held)) →
+      IsRight b h (Happening.Barred p t taken) → v.latest ≤ as_nanos t →
+      NodeStandsAt b.made (Block p (as_nanos t) ∷ calls_of h) node →
+      ((q : C) → link_of d.cmp links q ≡ (if is_at (d.cmp p) q then option_map closed (link_of d.cmp v.links q) else link_of d.cmp v.links q)) →
+      length links ≡ length v.links →
+      DriverStandsAt b (Happening.Barred p t taken ∷ h) (record v {
+        node = node;
+        latest = as_nanos t;
+        links = links;
+        actions = v.actions ++ shut p why.Blocked (link_of d.cmp v.links p);
+      })
+  bars p t taken node links right after made tied same = let e : Happening C S = Happening.Barred p t taken in record {
+    node = made;
+    pace = at.pace;
+    greeting = at.greeting;
+    cooldown = at.cooldown;
+    latest = refl;
+    next = at.next ∙ sym (next_stays e h refl);
+    arrivals = streams_stay e h v.arrivals refl (λ j. refl) (λ j. refl) (λ j. refl) at.arrivals;
+    answers = answers_later (as_nanos t) after;
+    links = λ q. links_closed e links q (is_at (d.cmp p) q) refl refl refl (tied q);
+    count = ap (λ k. k + count_by is_ended (e ∷ h)) same ∙ count_stays e refl refl;
+    actions = says (shut p why.Blocked (link_of d.cmp v.links p)) e refl (ap (shut p why.Blocked) (sym (at.links p)));
+    right = (right, in_time (as_nanos t) after, at.right);
+  }
+
+  -- the application parts from a peer, and its link is closed
+  pub parts : (p : C) (t : Duration) (links : List (C × Held)) → IsRight b h (Happening.Parted p t) →
+      v.latest ≤ as_nanos t →
+      ((q : C) → link_of d.cmp links q ≡ (if is_at (d.cmp p) q then option_map closed (link_of d.cmp v.links q) else link_of d.cmp v.links q)) →
+      length links ≡ length v.links →
+      DriverStandsAt b (Happening.Parted p t ∷ h) (record v {
+        latest = as_nanos t;
+        links = links;
+        actions = v.actions ++ shut p why.Application (link_of d.cmp v.links p);
+      })
+  parts p t links right after tied same = let e : Happening C S = Happening.Parted p t in record {
+    node = at.node;
+    pace = at.pace;
+    greeting = at.greeting;
+    cooldown = at.cooldown;
+    latest = refl;
+    next = at.next ∙ sym (next_stays e h refl);
+    arrivals = streams_stay e h v.arrivals refl (λ j. refl) (λ j. refl) (λ j. refl) at.arrivals;
+    answers = answers_later (as_nanos t) after;
+    links = λ q. links_closed e links q (is_at (d.cmp p) q) refl refl refl (tied q);
+    count = ap (λ k. k + count_by is_ended (e ∷ h)) same ∙ count_stays e refl refl;
+    actions = says (shut p why.Application (link_of d.cmp v.links p)) e refl (ap (shut p why.Application) (sym (at.links p)));
     right = (right, in_time (as_nanos t) after, at.right);
   }
 
@@ -312,7 +407,7 @@ module _ {C S : Type 0} (b : Base C S) (h : List (Happening C S)) (v : DriverVie
     next = at.next ∙ sym (next_stays e h refl);
     arrivals = streams_stay e h v.arrivals refl (λ j. refl) (λ j. refl) (λ j. refl) at.arrivals;
     answers = answers_later (as_nanos t) after;
-    links = links_stay e (λ p. refl) (λ p. refl) (λ p. refl) (λ p. refl);
+    links = links_stay e (λ p. refl) (λ p. refl) (λ p. refl);
     count = count_stays e refl refl;
     actions = says_nothing e refl refl;
     right = (tt, in_time (as_nanos t) after, at.right);
@@ -341,7 +436,7 @@ module _ {C S : Type 0} (b : Base C S) (h : List (Happening C S)) (v : DriverVie
         next = at.next ∙ sym (next_stays e h refl);
         arrivals = streams_stay e h v.arrivals refl (λ j. refl) (λ j. refl) (λ j. refl) at.arrivals;
         answers = subst (λ t. AreKept b.pace t (answered_in h) v.answers) (latest_stays e refl) at.answers;
-        links = links_stay e (λ p. refl) (λ p. refl) (λ p. refl) (λ p. refl);
+        links = links_stay e (λ p. refl) (λ p. refl) (λ p. refl);
         count = count_stays e refl refl;
         actions = says_nothing e refl refl;
         right = (right, tt, at.right);
@@ -359,7 +454,7 @@ module _ {C S : Type 0} (b : Base C S) (h : List (Happening C S)) (v : DriverVie
     next = at.next ∙ sym (next_stays e h refl);
     arrivals = streams_stay e h v.arrivals refl (λ j. refl) (λ j. refl) (λ j. refl) at.arrivals;
     answers = subst (λ t. AreKept b.pace t (answered_in h) v.answers) (latest_stays e refl) at.answers;
-    links = links_stay e (λ p. refl) (λ p. refl) (λ p. refl) (λ p. refl);
+    links = links_stay e (λ p. refl) (λ p. refl) (λ p. refl);
     count = count_stays e refl refl;
     actions = took_one (taken h) later (said d b.greeting h) a (ap (λ xs. taken h ++ xs) (sym is) ∙ at.actions);
     right = ((later, ap (λ xs. taken h ++ xs) (sym is) ∙ at.actions), tt, at.right);

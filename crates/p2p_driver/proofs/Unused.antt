@@ -7,14 +7,14 @@ use Rattle.std.specs.Prelude.{if◌then◌else◌, is_some}
 use Rattle.std.specs.declared.time.Duration.{Duration}
 use Rattle.p2p_tracker.specs.History.{same}
 use Rattle.p2p_driver.specs.Arrivals.{has_number}
-use Rattle.p2p_driver.specs.Happenings.{Happening, next_at, stream_at, came_by, leaves_by, claim_by, is_new, opened_by, ends_by, closes_by, greets_by}
+use Rattle.p2p_driver.specs.Happenings.{Happening, next_at, stream_at, came_by, leaves_by, claim_by, is_new, opened_by, ends_by}
 use Rattle.p2p_driver.specs.Links.{link_of, link_with}
 use Rattle.std.specs.declared.cmp.Ordering.{Ordering}
 use Rattle.p2p_driver.specs.Drivers.{DriverView, Base, DriverStandsAt, IsRight, AreRight, s, link, is_claim_by}
 use Rattle.p2p_driver.specs.declared.arrivals.Arrival.{Arrival}
 use Rattle.p2p_driver.specs.declared.links.Held.{Held}
 use Rattle.p2p_driver.proofs.StreamHistory.{stream_after, stream_later, next_stays, next_rises}
-use Rattle.p2p_driver.proofs.LinkHistory.{link_after, link_later, link_opens}
+use Rattle.p2p_driver.proofs.LinkHistory.{Touch, touch_by, link_after, link_later, link_opens}
 
 -- the number of a link, if there is one
 abbrev number_of : Option Held → ℕ
@@ -28,12 +28,12 @@ was_there leaves claim None some = absurd cc
 was_there leaves claim (Some a) some = refl
 
 -- a link that is there after something was there before, with the same number
-link_was : (ends closes greets : Bool) (o : Option Held) (held : Held) →
-    link_after ends closes greets o ≡ Some held →
+link_was : (ends : Bool) (touch : Touch) (o : Option Held) (held : Held) →
+    link_after ends touch o ≡ Some held →
     (old : Held) × (o ≡ Some old) × (old.number ≡ held.number)
-link_was ends closes greets None held is = absurd cc
-link_was true closes greets (Some old) held is = absurd cc
-link_was false closes greets (Some old) held is = (old, refl, ap number_of is)
+link_was ends touch None held is = absurd cc
+link_was true touch (Some old) held is = absurd cc
+link_was false touch (Some old) held is = (old, refl, ap number_of is)
 
 -- who claims to be somebody is there
 claims_is_some : {C : Type 0} (cmp : C → C → Ordering) (p : C) (o : Option (Arrival C)) →
@@ -55,6 +55,10 @@ module _ {C S : Type 0} where
   came_never n (Happening.StaleSetCame index primary secondary) new = refl
   came_never n (Happening.StreamLate m t) new = refl
   came_never n (Happening.LinkLate m p t) new = refl
+  came_never n (Happening.Heard m p t owed cause outcome) new = refl
+  came_never n (Happening.Given infos t) new = refl
+  came_never n (Happening.Barred p t taken) new = refl
+  came_never n (Happening.Parted p t) new = refl
   came_never n (Happening.Passed t) new = refl
   came_never n (Happening.Taken action) new = refl
 
@@ -77,6 +81,10 @@ module _ {C S : Type 0} (b : Base C S) where
   new_is_next n (Happening.StaleSetCame index primary secondary) h right new other = absurd cc
   new_is_next n (Happening.StreamLate m t) h right new other = absurd cc
   new_is_next n (Happening.LinkLate m p t) h right new other = absurd cc
+  new_is_next n (Happening.Heard m p t owed cause outcome) h right new other = absurd cc
+  new_is_next n (Happening.Given infos t) h right new other = absurd cc
+  new_is_next n (Happening.Barred p t taken) h right new other = absurd cc
+  new_is_next n (Happening.Parted p t) h right new other = absurd cc
   new_is_next n (Happening.Passed t) h right new other = absurd cc
   new_is_next n (Happening.Taken action) h right new other = absurd cc
 
@@ -140,7 +148,7 @@ module _ {C S : Type 0} (b : Base C S) where
       ((old : Held) → link b q h ≡ Some old → IsUsed old.number h) →
       link b q (e ∷ h) ≡ Some held → IsUsed held.number (e ∷ h)
   used_by_link q held e h right opened before is =
-      let old = link_was (ends_by (s b) q e) (closes_by (s b) q e) (greets_by (s b) q e) (link b q h) held
+      let old = link_was (ends_by (s b) q e) (touch_by (s b) q e) (link b q h) held
       (sym (link_later (s b) q e h opened) ∙ is) in
       used_later held.number e h right (subst (λ n. IsUsed n h) old.2 (before old.0 old.1))
 
@@ -203,6 +211,14 @@ module _ {C S : Type 0} (b : Base C S) where
       used_by_link q held (Happening.StreamLate n t) h right.0 refl (used h right.2 q) is
   used (Happening.LinkLate n p t ∷ h) right q held is =
       used_by_link q held (Happening.LinkLate n p t) h right.0 refl (used h right.2 q) is
+  used (Happening.Heard n p t owed cause outcome ∷ h) right q held is =
+      used_by_link q held (Happening.Heard n p t owed cause outcome) h right.0 refl (used h right.2 q) is
+  used (Happening.Given infos t ∷ h) right q held is =
+      used_by_link q held (Happening.Given infos t) h right.0 refl (used h right.2 q) is
+  used (Happening.Barred p t taken ∷ h) right q held is =
+      used_by_link q held (Happening.Barred p t taken) h right.0 refl (used h right.2 q) is
+  used (Happening.Parted p t ∷ h) right q held is =
+      used_by_link q held (Happening.Parted p t) h right.0 refl (used h right.2 q) is
   used (Happening.Passed t ∷ h) right q held is =
       used_by_link q held (Happening.Passed t) h right.0 refl (used h right.2 q) is
   used (Happening.Taken action ∷ h) right q held is =

@@ -10,18 +10,19 @@ use Rattle.std.specs.declared.cmp.Ordering.{Ordering}
 use Rattle.std.specs.declared.time.Duration.{Duration}
 use Rattle.p2p_discovery.specs.declared.discovery.Payload.TheVariants as payload
 use Rattle.p2p_discovery.specs.Payload.{payload_spelling, payload_at}
-use Rattle.p2p_tracker.specs.Calls.{Settings}
+use Rattle.p2p_tracker.specs.Calls.{Settings, Call}
 use Rattle.p2p_tracker.specs.Calls.Call.{Track}
 use Rattle.p2p_tracker.specs.Answers.{IsTrackAnswer, may_listen_at, was_taken}
 use Rattle.p2p_directory.specs.Run.{event_of, world_after}
-use Rattle.p2p_directory.specs.Nodes.{NodeView, Made, NodeStandsAt, made_of}
-use Rattle.p2p_directory.specs.Received.{Wire}
+use Rattle.p2p_directory.specs.Nodes.{NodeView, Made, NodeStandsAt, made_of, standing_in}
+use Rattle.p2p_directory.specs.Received.{Wire, Standing}
 use Rattle.p2p_directory.specs.declared.node.setup.Setup.{Setup}
 use Rattle.p2p_driver.specs.Actions.{ActionsView}
 use Rattle.p2p_driver.specs.Answers.{AnswersView, AreKept, MayAnswer, IsClaimRefusal, roomless}
 use Rattle.p2p_driver.specs.Arrivals.{has_number, is_unclaimed, deadline_of, room_of}
-use Rattle.p2p_driver.specs.Links.{link_of, needs}
-use Rattle.p2p_driver.specs.Steps.{is_claim_of, no_proof_of}
+use Rattle.p2p_driver.specs.Frames.{Cause, Outcome, IsOutcome, owed_after}
+use Rattle.p2p_driver.specs.Links.{link_of, needs, is_late}
+use Rattle.p2p_driver.specs.Steps.{is_claim_of, no_proof_of, IsBlock, IsDone}
 use Rattle.p2p_driver.specs.Happenings.{Happening, latest_at, calls_of, next_at, stream_at}
 use Rattle.p2p_driver.specs.Happenings.{answered_in, link_count, is_proved, is_ended, link_at}
 use Rattle.p2p_driver.specs.Happenings.{said, taken, time_by}
@@ -31,7 +32,6 @@ use Rattle.p2p_driver.specs.declared.arrivals.Arrival.{Arrival}
 use Rattle.p2p_driver.specs.declared.arrivals.Room.{Room}
 use Rattle.p2p_driver.specs.declared.arrivals.Room.TheVariants as room
 use Rattle.p2p_driver.specs.declared.links.Held.{Held}
-use Rattle.p2p_driver.specs.declared.links.Phase.TheVariants as phase
 use Rattle.p2p_driver.specs.declared.origin.Origin.{Origin}
 use Rattle.p2p_driver.specs.declared.pace.Pace.{Pace}
 
@@ -73,11 +73,13 @@ pub record HasRoom {C : Type 0} (arrivals : List (Arrival C)) (answers : Answers
   pub actions_fit : length arrivals + needs links ≤ actions.room
   pub answers_fit : count_by is_unclaimed arrivals ≤ answers.room
 
--- WHAT IT IS MADE FROM: that of its node, its settings, and the frame of its own greeting
+-- WHAT IT IS MADE FROM: that of its node, its settings, the frame of its own greeting, and how
+-- frames are read and spelled
 pub record Base (C S : Type 0) : Type 0 where
   pub made : Made C S
   pub pace : Pace
   pub greeting : List ℕ
+  pub wire : Wire C S
 
 -- how frames are read and spelled, and which signatures are right, by how keys and signatures are
 abbrev pub wire_with : {C S : Type 0} → (C → List ℕ → List ℕ → S → Bool) → (C → List ℕ) →
@@ -94,6 +96,7 @@ base_of cmp wire given pace = record {
   made = made_of cmp given;
   pace = pace;
   greeting = wire.spelling (payload.Greeting given.myself);
+  wire = wire;
 }
 
 -- these streams have numbers that rise, above the first and below the last
@@ -156,6 +159,19 @@ module _ {C S : Type 0} (b : Base C S) where
   abbrev pub no_proof : List (Happening C S) → ℕ → C → ℕ → Option Why
   no_proof h n p t = no_proof_of (is_claimed h n p) (may_come h p t)
 
+  -- the node, after these calls
+  abbrev pub standing : List (Call C S) → Standing C S
+  standing calls = standing_in b.made b.wire (world_after s calls)
+
+  -- the peer p of link n was heard: this comes of it, and so many questions are owed then
+  pub record IsHeard (h : List (Happening C S)) (n : ℕ) (p : C) (t : Duration) (owed : ℕ)
+      (cause : Cause) (outcome : Outcome C S) (held : Held) : Type 0 where
+    pub number : held.number ≡ n
+    pub comes : IsOutcome s.cmp b.wire (standing (calls_of h)) held.phase held.owed held.waiting p
+        cause outcome
+    pub owes : owed ≡ owed_after held.phase outcome b.pace.owed held.owed
+    pub done : IsDone b.wire b.made (calls_of h) p t outcome
+
   -- what may be done after a history, and when
   abbrev pub IsRight : List (Happening C S) → Happening C S → Type 0
   IsRight h (Happening.Arrived n origin t space) = (n ≡ next_at h) × (¬ (space ≡ room.None))
@@ -184,8 +200,12 @@ module _ {C S : Type 0} (b : Base C S) where
   IsRight h (Happening.StreamLate n t) = IsSomeAnd (stream_at n h)
       (λ a. deadline_of (as_nanos b.pace.first) (as_nanos b.pace.handshake) a ≤ as_nanos t)
   IsRight h (Happening.LinkLate n p t) = IsSomeAnd (link p h) (λ held. (held.number ≡ n)
-      × (held.phase ≡ phase.Greeting)
-      × (as_nanos held.since + as_nanos b.pace.greeting ≤ as_nanos t))
+      × (is_late (as_nanos b.pace.greeting) (as_nanos b.pace.silence) (as_nanos t) held ≡ true))
+  IsRight h (Happening.Heard n p t owed cause outcome) =
+      IsSomeAnd (link p h) (IsHeard h n p t owed cause outcome)
+  IsRight h (Happening.Given infos t) = Unit {0}
+  IsRight h (Happening.Barred p t taken) = IsBlock b.made (calls_of h) p (as_nanos t) taken
+  IsRight h (Happening.Parted p t) = is_some (link p h) ≡ true
   IsRight h (Happening.Passed t) = Unit {0}
   IsRight h (Happening.Taken action) =
       (later : List (Action C)) × (taken h ++ action ∷ later ≡ said s b.greeting h)
@@ -326,6 +346,25 @@ module _ {C S : Type 0} (cmp : C → C → Ordering) (wire : Wire C S) where
   abbrev pub AnswersEnd : ℕ → ℕ → Bool → DriverView C S → DriverView C S → Type 0
   AnswersEnd n now answer v v2 =
       EndedBy (is_some (find (has_number n) v.arrivals)) answer n now v v2
+
+  -- `block`: whether that was taken. Memory is wanted only for a block that is
+  abbrev pub AnswersBlock : C → ℕ → Result Bool AllocError → DriverView C S → DriverView C S →
+      Type 0
+  AnswersBlock p now (Ok taken) v v2 =
+      DoesAt cmp wire now (λ t. Happening.Barred p t taken) v v2
+  AnswersBlock p now (Err e) v v2 = (v2 ≡ v) × AtEachHistory cmp wire v
+      (λ b h. IsBlock b.made (calls_of h) p (max v.latest now) true)
+
+  -- by whether p has a link, and what is answered
+  abbrev pub PartedBy : Bool → Bool → C → ℕ → DriverView C S → DriverView C S → Type 0
+  PartedBy true true p now v v2 = DoesAt cmp wire now (λ t. Happening.Parted p t) v v2
+  PartedBy false false p now v v2 = v2 ≡ v
+  PartedBy _ _ p now v v2 = ⊥
+
+  -- `part`
+  abbrev pub AnswersPart : C → ℕ → Bool → DriverView C S → DriverView C S → Type 0
+  AnswersPart p now answer v v2 =
+      PartedBy (is_some (link_of cmp v.links p)) answer p now v v2
 
   -- `next_action`: the first that waits, or none does
   abbrev pub AnswersNext : Option (Action C) → DriverView C S → DriverView C S → Type 0

@@ -1,7 +1,7 @@
 -- What a driver did, and what follows of it by looking back: the calls of its node, the streams,
 -- the links, and what was said. A history is the list of what was done, the newest first.
-use Rattle.std.specs.Prelude.{ℕ, ◌==◌, ◌+◌, ◌-◌, Bool, true, false, if◌then◌else◌, List, [], ◌∷◌}
-use Rattle.std.specs.Prelude.{◌++◌, Option, Some, None, option_map}
+use Rattle.std.specs.Prelude.{ℕ, ◌==◌, ◌+◌, ◌-◌, ◌&&◌, not, Bool, true, false, if◌then◌else◌}
+use Rattle.std.specs.Prelude.{List, [], ◌∷◌, ◌++◌, Option, Some, None, option_map}
 use Rattle.std.specs.List.{list_any, count_by}
 use Rattle.std.specs.BTreeMap.{is_at}
 use Rattle.std.specs.Duration.{as_nanos}
@@ -9,10 +9,14 @@ use Rattle.std.specs.declared.cmp.Ordering.{Ordering}
 use Rattle.std.specs.declared.time.Duration.{Duration}
 use Rattle.p2p_discovery.specs.Ordered.{has_key}
 use Rattle.p2p_tracker.specs.Calls.{Settings, Call}
-use Rattle.p2p_tracker.specs.Calls.Call.{Track, Listen, Release, UnblockExpired, ForgetCooled}
+use Rattle.p2p_tracker.specs.Calls.Call.{Track, Listen, Connect, Release, Update, Block}
+use Rattle.p2p_tracker.specs.Calls.Call.{UnblockExpired, ForgetCooled}
 use Rattle.p2p_tracker.specs.History.{same, last_with}
-use Rattle.p2p_driver.specs.Links.{closed}
+use Rattle.p2p_driver.specs.Frames.{Cause, Outcome, waiting_by}
+use Rattle.p2p_driver.specs.Links.{closed, opened, hearing, waiting_in, is_ungreeted}
+use Rattle.p2p_discovery.specs.declared.discovery.Info.{Info}
 use Rattle.p2p_driver.specs.declared.actions.Action.{Action}
+use Rattle.p2p_driver.specs.declared.actions.Breach.{Breach}
 use Rattle.p2p_driver.specs.declared.actions.Action.TheVariants as action
 use Rattle.p2p_driver.specs.declared.actions.Event.TheVariants as event
 use Rattle.p2p_driver.specs.declared.actions.Why.{Why}
@@ -21,6 +25,7 @@ use Rattle.p2p_driver.specs.declared.arrivals.Arrival.{Arrival}
 use Rattle.p2p_driver.specs.declared.arrivals.Room.{Room}
 use Rattle.p2p_driver.specs.declared.arrivals.Room.TheVariants as room
 use Rattle.p2p_driver.specs.declared.links.Held.{Held}
+use Rattle.p2p_driver.specs.declared.links.Waiting.{Waiting}
 use Rattle.p2p_driver.specs.declared.links.Phase.{Phase}
 use Rattle.p2p_driver.specs.declared.links.Phase.TheVariants as phase
 use Rattle.p2p_driver.specs.declared.origin.Origin.{Origin}
@@ -49,6 +54,15 @@ pub data Happening (C S : Type 0) : Type 0 where
   StreamLate : (n : ℕ) (t : Duration) → Happening C S
   -- link n of p is late at t
   LinkLate : (n : ℕ) (p : C) (t : Duration) → Happening C S
+  -- at t the peer p of link n was heard, and this came of it: so many questions are owed then
+  Heard : (n : ℕ) (p : C) (t : Duration) (owed : ℕ) (cause : Cause) (outcome : Outcome C S) →
+      Happening C S
+  -- infos came at t from the application
+  Given : (infos : List (Info C S)) (t : Duration) → Happening C S
+  -- the application blocked p at t: whether that was taken
+  Barred : (p : C) (t : Duration) (taken : Bool) → Happening C S
+  -- the application parts from p at t
+  Parted : (p : C) (t : Duration) → Happening C S
   -- what ends by t ended: cooldowns and blocks
   Passed : (t : Duration) → Happening C S
   -- the host took an action
@@ -75,6 +89,10 @@ module _ {C S : Type 0} where
   time_by (Happening.StaleSetCame index primary secondary) = None
   time_by (Happening.StreamLate n t) = Some t
   time_by (Happening.LinkLate n p t) = Some t
+  time_by (Happening.Heard n p t owed cause outcome) = Some t
+  time_by (Happening.Given infos t) = Some t
+  time_by (Happening.Barred p t taken) = Some t
+  time_by (Happening.Parted p t) = Some t
   time_by (Happening.Passed t) = Some t
   time_by (Happening.Taken action) = None
 
@@ -88,12 +106,23 @@ module _ {C S : Type 0} where
 
   -- THE CALLS OF THE NODE
 
+  -- .. since the peer p of a link was heard at t
+  abbrev pub calls_for : C → Duration → Outcome C S → List (Call C S)
+  calls_for p t (Outcome.Greets info question) =
+      Connect p false ∷ Update (info ∷ []) ∷ []
+  calls_for p t (Outcome.Takes infos) = Update infos ∷ []
+  calls_for p t (Outcome.Breaks breach (Some taken)) = Block p (as_nanos t) ∷ []
+  calls_for p t outcome = []
+
   -- what was called of the node, the newest call first
   abbrev pub calls_by : Happening C S → List (Call C S)
   calls_by (Happening.Proved n p t draw) = Listen p (as_nanos t) (as_nanos draw) ∷ []
   calls_by (Happening.Ended n p t) = Release p ∷ []
   calls_by (Happening.SetCame t index primary secondary torn) = Track index primary secondary ∷ []
   calls_by (Happening.StaleSetCame index primary secondary) = Track index primary secondary ∷ []
+  calls_by (Happening.Heard n p t owed cause outcome) = calls_for p t outcome
+  calls_by (Happening.Given infos t) = Update infos ∷ []
+  calls_by (Happening.Barred p t taken) = Block p (as_nanos t) ∷ []
   calls_by (Happening.Passed t) = UnblockExpired (as_nanos t) ∷ ForgetCooled (as_nanos t) ∷ []
   calls_by _ = []
 
@@ -181,6 +210,25 @@ phase_of true greeted = phase.Closing
 phase_of false true = phase.Open
 phase_of false false = phase.Greeting
 
+-- by this outcome a link is closed
+abbrev pub is_closing : {C S : Type 0} → Outcome C S → Bool
+is_closing (Outcome.Breaks breach blocked) = true
+is_closing Outcome.IsEarly = true
+is_closing outcome = false
+
+-- .. its peer has greeted
+abbrev pub is_greeted : {C S : Type 0} → Outcome C S → Bool
+is_greeted (Outcome.Greets info question) = true
+is_greeted outcome = false
+
+-- what it makes of what is kept of the link of the peer that was heard at t, if so many questions
+-- are owed then
+abbrev pub heard_as : {C S : Type 0} → Duration → ℕ → Outcome C S → Held → Held
+heard_as t owed (Outcome.Greets info question) = opened t owed
+heard_as t owed (Outcome.Breaks breach blocked) = closed
+heard_as t owed Outcome.IsEarly = closed
+heard_as t owed outcome = hearing t owed (waiting_by outcome)
+
 module _ {C S : Type 0} (s : Settings C S) where
   -- LINKS, of which a peer has one at most
 
@@ -198,27 +246,58 @@ module _ {C S : Type 0} (s : Settings C S) where
   abbrev pub closes_by : C → Happening C S → Bool
   closes_by p (Happening.SetCame t index primary secondary torn) = has_key s.cmp torn p
   closes_by p (Happening.LinkLate n q t) = same s q p
+  closes_by p (Happening.Heard n q t owed cause outcome) = is_closing outcome && same s q p
+  closes_by p (Happening.Barred q t taken) = same s q p
+  closes_by p (Happening.Parted q t) = same s q p
   closes_by p _ = false
 
   -- by it the peer of the link of p greeted
   abbrev pub greets_by : C → Happening C S → Bool
+  greets_by p (Happening.Heard n q t owed cause outcome) = is_greeted outcome && same s q p
   greets_by p _ = false
+
+  -- by it p was heard, and its link goes on: when, how many questions are owed then, what waits
+  abbrev pub heard_by : C → Happening C S → Option (Duration × ℕ × Option Waiting)
+  heard_by p (Happening.Heard n q t owed cause outcome) =
+      if not (is_closing outcome) && same s q p then Some (t, owed, waiting_by outcome) else None
+  heard_by p _ = None
+
+  -- what is kept of how p was heard last since its link began, or else of when that was
+  abbrev pub last_heard : Duration →
+      Option ((Duration × ℕ × Option Waiting) × List (Happening C S)) →
+      Duration × ℕ × Option Waiting
+  last_heard since None = (since, 0, None)
+  last_heard since (Some found) = found.0
+
+  -- what is kept of the link of p, by its number and when it began, and what was done since
+  abbrev pub kept_of : C → ℕ → Duration → List (Happening C S) → Held
+  kept_of p n t since =
+      let phase = phase_of (list_any (closes_by p) since) (list_any (greets_by p) since) in
+      let last = last_heard t (last_with (heard_by p) since) in record {
+        number = n;
+        phase = phase;
+        since = t;
+        heard = last.0;
+        owed = last.1;
+        waiting = waiting_in phase last.2;
+      }
 
   -- the link of p, by its number and when it began, and what was done since
   abbrev pub link_since : C → Option ((ℕ × Duration) × List (Happening C S)) → Option Held
   link_since p None = None
   link_since p (Some found) = if list_any (ends_by p) found.1 then None
-      else Some (record {
-        number = found.0.0;
-        phase = phase_of (list_any (closes_by p) found.1) (list_any (greets_by p) found.1);
-        since = found.0.1;
-      })
+      else Some (kept_of p found.0.0 found.0.1 found.1)
 
   -- the link of p: the one that began last, unless it ended
   abbrev pub link_at : C → List (Happening C S) → Option Held
   link_at p h = link_since p (last_with (opened_by p) h)
 
 -- WHAT WAS SAID
+
+-- why a link is closed that is late: its peer hasn't greeted in time, or it is silent
+abbrev pub why_late : Option Held → Why
+why_late None = why.Slow
+why_late (Some held) = if is_ungreeted held then why.Slow else why.Silent
 
 module _ {C : Type 0} where
   -- a stream is closed
@@ -249,6 +328,25 @@ module _ {C : Type 0} where
   shut p w None = []
   shut p w (Some held) = shut_in held.number p w held.phase
 
+  -- p is told to be blocked, if that was taken
+  abbrev pub barred : C → Breach → Option Bool → List (Action C)
+  barred p b (Some true) = action.Told (event.Blocked p b) ∷ []
+  barred p b blocked = []
+
+  -- p is asked on a link, if it is
+  abbrev pub asked : ℕ → Option (List ℕ) → List (Action C)
+  asked n None = []
+  asked n (Some question) = sent n question
+
+  -- what comes of a frame of link n of p is said
+  abbrev pub answered_on : {S : Type 0} → ℕ → C → Outcome C S → Option Held → List (Action C)
+  answered_on n p (Outcome.Greets info question) link =
+      action.Told (event.Up (record { 0 = n }) p) ∷ asked n question
+  answered_on n p (Outcome.Answers reply) link = sent n reply
+  answered_on n p (Outcome.Breaks b blocked) link = shut p (why.Breach b) link ++ barred p b blocked
+  answered_on n p Outcome.IsEarly link = shut p why.Future link
+  answered_on n p outcome link = []
+
   -- the link of p ended, if it has one
   abbrev pub parted : C → Option Held → List (Action C)
   parted p None = []
@@ -275,7 +373,12 @@ module _ {C S : Type 0} (s : Settings C S) (greeting : List ℕ) where
   says_by h (Happening.SetCame t index primary secondary torn) =
       shut_all s.cmp torn (λ p. link_at s p h)
   says_by h (Happening.StreamLate n t) = closing n why.Slow
-  says_by h (Happening.LinkLate n p t) = shut p why.Slow (link_at s p h)
+  says_by h (Happening.LinkLate n p t) =
+      shut p (why_late (link_at s p h)) (link_at s p h)
+  says_by h (Happening.Heard n p t owed cause outcome) =
+      answered_on n p outcome (link_at s p h)
+  says_by h (Happening.Barred p t taken) = shut p why.Blocked (link_at s p h)
+  says_by h (Happening.Parted p t) = shut p why.Application (link_at s p h)
   says_by h _ = []
 
   -- all that was said, the oldest first

@@ -1,8 +1,16 @@
 -- Words of the laws of drivers.
-use Rattle.std.specs.Prelude.{ℕ, ◌≡◌, List, ◌++◌}
+use Rattle.std.specs.Prelude.{ℕ, ◌≡◌, ◌&&◌, Bool, true, false, List, [], ◌++◌, Option, Some, None}
+use Rattle.std.specs.Prelude.{if◌then◌else◌}
+use Rattle.std.specs.List.{Contains, list_any, count_by}
+use Rattle.std.specs.Duration.{as_nanos}
+use Rattle.p2p_tracker.specs.Calls.{Settings}
+use Rattle.p2p_tracker.specs.History.{same, last_with}
+use Rattle.p2p_driver.specs.Frames.{Outcome, begins_with}
+use Rattle.p2p_driver.specs.Happenings.{Happening, opened_by, greets_by}
 use Rattle.p2p_driver.specs.declared.actions.Action.{Action}
 use Rattle.p2p_driver.specs.declared.actions.Action.TheVariants as action
 use Rattle.p2p_driver.specs.declared.actions.Why.{Why}
+use Rattle.p2p_driver.specs.declared.actions.Why.TheVariants as why
 
 -- a list begins with these, and goes on
 abbrev pub Begins : {A : Type 0} → List A → List A → Type 0
@@ -11,3 +19,85 @@ Begins {A} first all = (later : List A) × (first ++ later ≡ all)
 -- the close of the stream with the number
 abbrev pub closes : {C : Type 0} → ℕ → Why → Action C
 closes n why = action.Close (record { 0 = n }) why
+
+-- an outcome that is for a peer that has greeted: its infos are taken, its question is answered, or
+-- its message is delivered
+abbrev pub is_served : {C S : Type 0} → Outcome C S → Bool
+is_served (Outcome.Takes infos) = true
+is_served (Outcome.Answers reply) = true
+is_served (Outcome.Delivers message) = true
+is_served outcome = false
+
+-- an outcome but for what may lack memory: the question, and whether the peer is blocked
+abbrev pub bare : {C S : Type 0} → Outcome C S → Outcome C S
+bare (Outcome.Greets info question) = Outcome.Greets info None
+bare (Outcome.Breaks breach blocked) = Outcome.Breaks breach None
+bare outcome = outcome
+
+-- by this outcome the peer is asked
+abbrev pub is_asked : {C S : Type 0} → Outcome C S → Bool
+is_asked (Outcome.Greets info (Some question)) = true
+is_asked outcome = false
+
+-- by this one a list of infos is admitted: it waits until it is told which signatures are right
+abbrev pub is_list : {C S : Type 0} → Outcome C S → Bool
+is_list (Outcome.Waits waiting) = begins_with 3 waiting.frame
+is_list outcome = false
+
+-- p is blocked by it at a moment: the application asks for that, or p broke a rule
+abbrev pub Blames : {C S : Type 0} → C → ℕ → Happening C S → Type 0
+Blames p now (Happening.Heard n q t owed cause (Outcome.Breaks breach (Some taken))) =
+    (q ≡ p) × (as_nanos t ≡ now)
+Blames p now (Happening.Barred q t taken) = (q ≡ p) × (as_nanos t ≡ now)
+Blames p now e = ⊥
+
+-- what was done since something was found
+abbrev pub since_of : {A E : Type 0} → Option (A × List E) → List E
+since_of None = []
+since_of (Some found) = found.1
+
+module _ {C S : Type 0} (s : Settings C S) where
+  -- what was done since the last link of p began
+  abbrev pub since_began : C → List (Happening C S) → List (Happening C S)
+  since_began p h = since_of (last_with (opened_by s p) h)
+
+  -- by it p greeted, with an info of its own key
+  abbrev pub IsGreetingOf : C → Happening C S → Type 0
+  IsGreetingOf p (Happening.Heard n q t owed cause (Outcome.Greets info question)) =
+      (same s q p ≡ true) × (same s p info.public_key ≡ true)
+  IsGreetingOf p e = ⊥
+
+  -- .. on its last link
+  abbrev pub HasGreeted : C → List (Happening C S) → Type 0
+  HasGreeted p h = (e : Happening C S) × Contains (since_began p h) e × IsGreetingOf p e
+
+  -- .. or it hasn't, or there was none
+  abbrev pub has_greeted : C → List (Happening C S) → Bool
+  has_greeted p h = list_any (greets_by s p) (since_began p h)
+
+  -- why the link of p is closed by what p or the application does, if it is
+  abbrev pub cut_by : C → Happening C S → Option Why
+  cut_by p (Happening.Heard n q t owed cause (Outcome.Breaks breach blocked)) =
+      if same s q p then Some (why.Breach breach) else None
+  cut_by p (Happening.Heard n q t owed cause Outcome.IsEarly) =
+      if same s q p then Some why.Future else None
+  cut_by p (Happening.Barred q t taken) = if same s q p then Some why.Blocked else None
+  cut_by p (Happening.Parted q t) = if same s q p then Some why.Application else None
+  cut_by p e = None
+
+  -- by it p is asked
+  abbrev pub asks_by : C → Happening C S → Bool
+  asks_by p (Happening.Heard n q t owed cause outcome) = same s q p && is_asked outcome
+  asks_by p e = false
+
+  -- by it a list of p is admitted
+  abbrev pub lists_by : C → Happening C S → Bool
+  lists_by p (Happening.Heard n q t owed cause outcome) = same s q p && is_list outcome
+  lists_by p e = false
+
+  -- how often p was asked on its last link, and how many lists of it were admitted there
+  abbrev pub asked_on : C → List (Happening C S) → ℕ
+  asked_on p h = count_by (asks_by p) (since_began p h)
+
+  abbrev pub lists_on : C → List (Happening C S) → ℕ
+  lists_on p h = count_by (lists_by p) (since_began p h)

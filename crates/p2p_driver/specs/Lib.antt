@@ -8,8 +8,11 @@ pub mod Digests
 pub mod Answers
 pub mod Actions
 pub mod Links
-pub mod Steps
+pub mod Frames
 pub mod Happenings
+pub mod Steps
+pub mod Hearing
 pub mod Drivers
+pub mod Admissions
 pub mod Timers
 pub mod Laws

@@ -1,7 +1,7 @@
 -- The links of a driver: peers with what is kept of the link of each, in the order of their keys.
 -- Moments and durations are nanoseconds.
 use Rattle.std.specs.Prelude.{ℕ, ◌≡◌, ◌≤◌, ◌+◌, ◌&&◌, nat_le, Bool, true, false, List, Option, Some}
-use Rattle.std.specs.Prelude.{None, option_map, unwrap_or, if◌then◌else◌}
+use Rattle.std.specs.Prelude.{None, option_map, unwrap_or, if◌then◌else◌, is_some, not}
 use Rattle.std.specs.Duration.{as_nanos}
 use Rattle.std.specs.List.{sum_by, fold}
 use Rattle.std.specs.Map.{lookup, values_of}
@@ -12,6 +12,7 @@ use Rattle.std.specs.declared.time.Duration.{Duration}
 use Rattle.p2p_driver.specs.Arrivals.{lesser_of}
 use Rattle.p2p_driver.specs.declared.links.Held.{Held}
 use Rattle.p2p_driver.specs.declared.links.Phase.{Phase}
+use Rattle.p2p_driver.specs.declared.links.Waiting.{Waiting}
 use Rattle.p2p_driver.specs.declared.links.Phase.TheVariants.{Greeting, Open, Closing}
 
 -- what is kept of the link of a peer, if it has one
@@ -32,9 +33,16 @@ need_at link = unwrap_or (option_map (λ h. need_of h.phase) link) 0
 abbrev pub needs : {C : Type 0} → List (C × Held) → ℕ
 needs links = sum_by (λ h. need_of h.phase) (values_of links)
 
--- a link of a peer that hasn't greeted
+-- a link of a peer that hasn't greeted: nothing was heard of it, or asked
 abbrev pub link_with : ℕ → Duration → Held
-link_with number since = record { number = number; phase = Greeting; since = since }
+link_with number since = record {
+  number = number;
+  phase = Greeting;
+  since = since;
+  heard = since;
+  owed = 0;
+  waiting = None;
+}
 
 -- the phase once the peer has greeted
 abbrev pub greeted : Phase → Phase
@@ -42,13 +50,27 @@ greeted Greeting = Open
 greeted Open = Open
 greeted Closing = Closing
 
--- what is kept of a link once its peer has greeted
-abbrev pub opened : Held → Held
-opened h = record { number = h.number; phase = greeted h.phase; since = h.since }
+-- what waits on a link: nothing, once it was closed
+abbrev pub waiting_in : Phase → Option Waiting → Option Waiting
+waiting_in Closing waiting = None
+waiting_in phase waiting = waiting
+
+-- what is kept of a link once its peer was heard: when, how many questions are owed then, and what
+-- waits
+abbrev pub hearing : Duration → ℕ → Option Waiting → Held → Held
+hearing t owed waiting h = record h {
+  heard = t;
+  owed = owed;
+  waiting = waiting_in h.phase waiting;
+}
+
+-- .. and has greeted
+abbrev pub opened : Duration → ℕ → Held → Held
+opened t owed h = record h { phase = greeted h.phase; heard = t; owed = owed; waiting = None }
 
 -- .. and once it was closed
 abbrev pub closed : Held → Held
-closed h = record { number = h.number; phase = Closing; since = h.since }
+closed h = record h { phase = Closing; waiting = None }
 
 -- the peer hasn't greeted yet
 abbrev pub is_greeting : Phase → Bool
@@ -56,27 +78,39 @@ is_greeting Greeting = true
 is_greeting Open = false
 is_greeting Closing = false
 
+-- .. and nothing of it waits
+abbrev pub is_ungreeted : Held → Bool
+is_ungreeted h = is_greeting h.phase && not (is_some h.waiting)
+
+-- the link isn't closed
+abbrev pub is_timed : Phase → Bool
+is_timed Greeting = true
+is_timed Open = true
+is_timed Closing = false
+
 -- 1 if there is a link whose peer hasn't greeted, else 0
 abbrev pub one_if_greeting : Option Held → ℕ
 one_if_greeting link =
     unwrap_or (option_map (λ h. if is_greeting h.phase then 1 else 0) link) 0
 
--- by when the peer of a link has to greet, if it has so long for it
-abbrev pub due : ℕ → Held → ℕ
-due within h = as_nanos h.since + within
+-- by when the peer of a link has to be heard: before it has greeted, and while nothing of it
+-- waits, so long after its proof; else so long after it was heard last
+abbrev pub due : ℕ → ℕ → Held → ℕ
+due greeting silence h =
+    if is_ungreeted h then as_nanos h.since + greeting else as_nanos h.heard + silence
 
--- the peer of a link greets too late
-abbrev pub is_late : ℕ → ℕ → Held → Bool
-is_late within now h = is_greeting h.phase && nat_le (due within h) now
+-- a link is late: it isn't closed, and its time is over
+abbrev pub is_late : ℕ → ℕ → ℕ → Held → Bool
+is_late greeting silence now h = is_timed h.phase && nat_le (due greeting silence h) now
 
--- the moment, or that by which the peer of a link has to greet, if that is sooner
-abbrev pub sooner_of : ℕ → Option ℕ → Held → Option ℕ
-sooner_of within next h =
-    if is_greeting h.phase then Some (lesser_of next (due within h)) else next
+-- the moment, or that by which the peer of a link has to be heard, if that is sooner
+abbrev pub sooner_of : ℕ → ℕ → Option ℕ → Held → Option ℕ
+sooner_of greeting silence next h =
+    if is_timed h.phase then Some (lesser_of next (due greeting silence h)) else next
 
--- the least of the moment and those by which the peers of these links have to greet
-abbrev pub least_due : ℕ → Option ℕ → List Held → Option ℕ
-least_due within next held = fold (sooner_of within) next held
+-- the least of the moment and those by which the peers of these links have to be heard
+abbrev pub least_due : ℕ → ℕ → Option ℕ → List Held → Option ℕ
+least_due greeting silence next held = fold (sooner_of greeting silence) next held
 
 -- WHAT HOLDS OF ALL LINKS
 module _ {C : Type 0} (cmp : C → C → Ordering) (links : List (C × Held)) where
@@ -96,14 +130,15 @@ module _ {C : Type 0} (cmp : C → C → Ordering) (links : List (C × Held)) wh
     pub back : (q : C) (h : Held) → link_of cmp links q ≡ Some h →
         IsSomeAnd (at h.number) (λ p. is_at (cmp p) q ≡ true)
 
--- WHO GREETS TOO LATE
-module _ {C : Type 0} (cmp : C → C → Ordering) (within : ℕ) (links : List (C × Held)) where
-  -- the least moment by which a peer that hasn't greeted has to, if there is one
+-- WHO IS LATE
+module _ {C : Type 0} (cmp : C → C → Ordering) (greeting silence : ℕ)
+    (links : List (C × Held)) where
+  -- the least moment by which a peer has to be heard, if there is one
   abbrev pub IsLeastDue : Option ℕ → Type 0
   IsLeastDue None = (q : C) (h : Held) → link_of cmp links q ≡ Some h →
-      is_greeting h.phase ≡ false
+      is_timed h.phase ≡ false
   IsLeastDue (Some least) =
-      ((q : C) (h : Held) → link_of cmp links q ≡ Some h → is_greeting h.phase ≡ true →
-      least ≤ due within h)
+      ((q : C) (h : Held) → link_of cmp links q ≡ Some h → is_timed h.phase ≡ true →
+      least ≤ due greeting silence h)
       × ((q : C) × (h : Held) × (link_of cmp links q ≡ Some h)
-      × (is_greeting h.phase ≡ true) × (due within h ≡ least))
+      × (is_timed h.phase ≡ true) × (due greeting silence h ≡ least))

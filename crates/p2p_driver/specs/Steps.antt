@@ -1,19 +1,40 @@
 -- What calls of a node make of it, wherever it stood.
 use Rattle.std.specs.Prelude.{ℕ, ◌≡◌, Bool, true, false, ◌&&◌, not, nat_lt}
 use Rattle.std.specs.Prelude.{List, ◌∷◌, ◌++◌, length, Option, Some, None}
-use Rattle.std.specs.Prelude.{is_some}
+use Rattle.std.specs.Prelude.{is_some, IfSome}
 use Rattle.std.specs.declared.cmp.Ordering.{Ordering}
 use Rattle.p2p_tracker.specs.Calls.{Call}
-use Rattle.p2p_tracker.specs.Calls.Call.{Track}
+use Rattle.p2p_tracker.specs.Calls.Call.{Track, Block}
 use Rattle.p2p_tracker.specs.Answers.{IsTrackAnswer, may_listen_at, may_release, was_taken}
+use Rattle.p2p_tracker.specs.Answers.{may_connect, was_blocked}
 use Rattle.p2p_directory.specs.Run.{event_of, world_after}
-use Rattle.p2p_directory.specs.Nodes.{NodeView, NodeStandsAt, AtEach}
+use Rattle.p2p_directory.specs.Nodes.{NodeView, Made, NodeStandsAt, AtEach, standing_in}
+use Rattle.p2p_directory.specs.Received.{Wire}
 use Rattle.std.specs.BTreeMap.{is_at}
 use Rattle.p2p_driver.specs.declared.actions.Why.{Why}
 use Rattle.p2p_driver.specs.declared.actions.Why.TheVariants as why
+use Rattle.std.specs.Duration.{as_nanos}
+use Rattle.std.specs.declared.time.Duration.{Duration}
+use Rattle.p2p_driver.specs.Frames.{Outcome, first_question}
+use Rattle.p2p_driver.specs.Happenings.{calls_for}
 use Rattle.p2p_driver.specs.Links.{link_of}
 use Rattle.p2p_driver.specs.declared.links.Held.{Held}
 use Rattle.p2p_driver.specs.declared.pace.Pace.{Pace}
+
+-- a block of p at t, after these calls of a node, is taken, or isn't
+abbrev pub IsBlock : {C S : Type 0} → Made C S → List (Call C S) → C → ℕ → Bool → Type 0
+IsBlock m calls p t taken = taken ≡ was_blocked (event_of m.directory calls (Block p t))
+
+-- what is done at t with what comes of a frame of p, after these calls: a peer that has greeted is
+-- asked first, or a block is taken, if memory is there
+abbrev pub IsDone : {C S : Type 0} → Wire C S → Made C S → List (Call C S) → C → Duration →
+    Outcome C S → Type 0
+IsDone wire m calls p t (Outcome.Greets info question) = IfSome question (λ frame.
+    frame ≡ first_question wire (standing_in m wire (world_after m.directory
+    (calls_for p t (Outcome.Greets info question) ++ calls))))
+IsDone wire m calls p t (Outcome.Breaks breach blocked) =
+    IfSome blocked (IsBlock m calls p (as_nanos t))
+IsDone wire m calls p t outcome = Unit {0}
 
 module _ {C S : Type 0} (cmp : C → C → Ordering) where
   -- wherever a node stood, it stands after these calls too, the newest first
@@ -29,6 +50,24 @@ module _ {C S : Type 0} (cmp : C → C → Ordering) where
   abbrev pub IsBusy : C → NodeView C S → Type 0
   IsBusy p v = AtEach cmp v (λ m calls.
       may_release m.directory (world_after m.directory calls) p ≡ true)
+
+  -- .. a peer is reserved, and not connected
+  abbrev pub MayConnect : C → NodeView C S → Type 0
+  MayConnect p v = AtEach cmp v (λ m calls.
+      may_connect m.directory (world_after m.directory calls) p ≡ true)
+
+  -- .. a block is taken, or isn't, if it is made
+  abbrev pub IsBlocked : C → ℕ → Option Bool → NodeView C S → Type 0
+  IsBlocked p t blocked v =
+      IfSome blocked (λ taken. AtEach cmp v (λ m calls. IsBlock m calls p t taken))
+
+  -- .. a block would be taken
+  abbrev pub MayBlock : C → ℕ → NodeView C S → Type 0
+  MayBlock p t v = AtEach cmp v (λ m calls. IsBlock m calls p t true)
+
+  -- .. it stands after the calls for what comes of a frame of p at t
+  abbrev pub MakesFor : C → Duration → Outcome C S → NodeView C S → NodeView C S → Type 0
+  MakesFor p t outcome = Makes (calls_for p t outcome)
 
   -- .. a track is accepted
   abbrev pub IsTaken : ℕ → List C → List C → NodeView C S → Type 0

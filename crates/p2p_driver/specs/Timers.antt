@@ -34,12 +34,12 @@ module _ {C S : Type 0} where
   pending v = length v.arrivals + needs v.links
 
 module _ {C S : Type 0} (cmp : C → C → Ordering) where
-  -- no stream is late at t, and no link whose peer hasn't greeted
+  -- no stream is late at t, and no link
   pub record NoneLate (t : ℕ) (v : DriverView C S) : Type 0 where
     pub streams : (n : ℕ) (a : Arrival C) → find (has_number n) v.arrivals ≡ Some a →
         t < deadline_of (as_nanos v.pace.first) (as_nanos v.pace.handshake) a
     pub links : (p : C) (held : Held) → link_of cmp v.links p ≡ Some held →
-        is_late (as_nanos v.pace.greeting) t held ≡ false
+        is_late (as_nanos v.pace.greeting) (as_nanos v.pace.silence) t held ≡ false
 
 -- the earlier of two moments, if there are some
 abbrev pub earlier : Option ℕ → Option ℕ → Option ℕ
@@ -51,8 +51,8 @@ earlier (Some m) (Some n) = Some (min m n)
 abbrev pub held_moment : Option ℕ → Option ℕ
 held_moment moment = option_map (λ n. min n max_nanos) moment
 
--- the first moment at which something is due: a stream is late, or a link whose peer hasn't
--- greeted, or a block or a cooldown ends
+-- the first moment at which something is due: a stream or a link is late, or a block or a cooldown
+-- ends
 pub record IsNextTimeout {C S : Type 0} (cmp : C → C → Ordering) (v : DriverView C S)
     (next : Option ℕ) : Type 0 where
   pub stream : Option ℕ
@@ -61,7 +61,7 @@ pub record IsNextTimeout {C S : Type 0} (cmp : C → C → Ordering) (v : Driver
   pub cooldown : Option ℕ
   pub streams :
       IsLeastDeadline (as_nanos v.pace.first) (as_nanos v.pace.handshake) v.arrivals stream
-  pub links : IsLeastDue cmp (as_nanos v.pace.greeting) v.links link
+  pub links : IsLeastDue cmp (as_nanos v.pace.greeting) (as_nanos v.pace.silence) v.links link
   pub blocks : IsLeastOf (unblock_of cmp v.node.directory) block
   pub cooldowns : IsLeastOf (dial_moment_in cmp v.node.directory) cooldown
   pub next_is : next ≡

@@ -51,6 +51,8 @@ pub enum Why {
     Crowded,
     /// A claim, a proof or a greeting came too late.
     Slow,
+    /// Nothing was heard of its peer for too long.
+    Silent,
     /// The peer proved as another key than it claimed, or without a claim.
     WrongKey,
     /// The peer isn't let in now.

@@ -12,14 +12,14 @@ ghost use Rattle.p2p_directory.specs.Nodes.{AtEach, IsSame};
 ghost use Rattle.p2p_directory.specs.Run.{world_after};
 ghost use Rattle.p2p_driver.specs.Steps.{comes_by, is_claim_of, no_proof_of};
 ghost use Rattle.p2p_driver.specs.Happenings.{shut, shut_all, shut_in, closed_at};
-ghost use Rattle.p2p_driver.specs.Happenings.{parted, downed, sent};
+ghost use Rattle.p2p_driver.specs.Happenings.{parted, downed, sent, why_late};
 ghost use Rattle.p2p_driver.specs.Links.{link_of, link_with, need_of, need_at, needs, closed};
 ghost use Rattle.p2p_driver.specs.Steps.{IsBusy, Makes, MayListen};
 ghost use Rattle.p2p_driver.specs.declared.links.Held.{Held};
 
 use crate::actions::{Action, Actions, Event, Why};
 use crate::link::Link;
-use crate::links::{Held, Links, Phase};
+use crate::links::{Links, Phase};
 use crate::pace::Pace;
 use crate::steps;
 use bytes::Bytes;
@@ -95,21 +95,21 @@ pub(crate) fn end<C: PublicKey>(
     links.agrees();
     steps::release(node, peer);
     if let Some(held) = links.remove(peer) {
-        tell_end(actions, held, peer);
+        tell_end(actions, held.number, held.phase, peer);
     }
 }
 
 // Tells that a link ended, if it was told to be up, and gives back the room that was promised.
-fn tell_end<C: Copy>(actions: &mut Actions<C>, held: Held, peer: &C)
-    requires { need_of held.phase ≤ actions.old.room }
+fn tell_end<C: Copy>(actions: &mut Actions<C>, number: u64, phase: Phase, peer: &C)
+    requires { need_of phase ≤ actions.old.room }
     ensures said { actions.new.items
-        ≡ actions.old.items ++ downed held.number peer.now None held.phase }
-    ensures room { actions.new.room + need_of held.phase ≡ actions.old.room }
+        ≡ actions.old.items ++ downed number peer.now None phase }
+    ensures room { actions.new.room + need_of phase ≡ actions.old.room }
 {
-    match held.phase {
+    match phase {
         Phase::Greeting => actions.give_back(1),
         Phase::Open => {
-            actions.push(Action::Told(Event::Down(Link(held.number), *peer, None)));
+            actions.push(Action::Told(Event::Down(Link(number), *peer, None)));
             actions.give_back(1);
         }
         Phase::Closing => {}
@@ -130,26 +130,36 @@ pub(crate) fn shut<C: PublicKey>(links: &mut Links<C>, actions: &mut Actions<C>,
     // For the proof: what a link needs is no more than what all need.
     links.agrees();
     if let Some(held) = links.get(peer) {
-        tell_close(actions, held, peer, why);
+        tell_close(actions, held.number, held.phase, peer, why);
     }
     links.close(peer);
 }
 
 // Tells that a link is closed, unless it was.
-fn tell_close<C: Copy>(actions: &mut Actions<C>, held: Held, peer: &C, why: Why)
-    requires { need_of held.phase ≤ actions.old.room }
+fn tell_close<C: Copy>(actions: &mut Actions<C>, number: u64, phase: Phase, peer: &C, why: Why)
+    requires { need_of phase ≤ actions.old.room }
     ensures said { actions.new.items
-        ≡ actions.old.items ++ shut_in held.number peer.now why held.phase }
-    ensures room { actions.new.room + need_of held.phase ≡ actions.old.room }
+        ≡ actions.old.items ++ shut_in number peer.now why phase }
+    ensures room { actions.new.room + need_of phase ≡ actions.old.room }
 {
-    let link = Link(held.number);
-    match held.phase {
+    let link = Link(number);
+    match phase {
         Phase::Greeting => actions.push(Action::Close { link, why }),
         Phase::Open => {
             actions.push(Action::Close { link, why });
             actions.push(Action::Told(Event::Down(link, *peer, Some(why))));
         }
         Phase::Closing => {}
+    }
+}
+
+// Why the late link of a peer is closed: the peer hasn't greeted in time, or it is silent.
+pub(crate) fn why_late<C: PublicKey>(links: &Links<C>, peer: &C) -> Why
+    ensures { result ≡ why_late (link_of C.cmp links.now peer.now) }
+{
+    match links.get(peer) {
+        Some(held) if !held.is_ungreeted() => Why::Silent,
+        _ => Why::Slow,
     }
 }
 

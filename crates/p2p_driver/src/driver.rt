@@ -30,6 +30,8 @@ use std::alloc::{AllocError, Global};
 use std::marker::Model;
 use std::time::Duration;
 
+mod application;
+mod frames;
 mod sets;
 mod timers;
 

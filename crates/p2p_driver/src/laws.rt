@@ -6,8 +6,11 @@ ghost use Rattle.std.specs.Prelude.{option_map};
 ghost use Rattle.std.specs.Duration.{as_nanos};
 ghost use Rattle.std.specs.Int.NonZero.{non_zero_u32_get};
 ghost use Rattle.std.specs.List.{Contains, count_by};
+ghost use Rattle.std.specs.Option.{IsSomeAnd};
 ghost use Rattle.p2p_discovery.specs.Ordered.{has_key};
+ghost use Rattle.p2p_tracker.specs.Calls.Call.{Block};
 ghost use Rattle.p2p_tracker.specs.History.{is_entitled, same};
+ghost use Rattle.p2p_tracker.specs.Status.{is_active};
 ghost use Rattle.p2p_directory.specs.Held.{held_of};
 ghost use Rattle.p2p_directory.specs.Laws.Grants.{NeverGoBack};
 ghost use Rattle.p2p_directory.specs.Laws.Steps.{is_busy_in};
@@ -17,17 +20,20 @@ ghost use Rattle.p2p_driver.specs.Arrivals.{is_of};
 ghost use Rattle.p2p_driver.specs.Happenings.{Happening, calls_of, latest_at, link_count};
 ghost use Rattle.p2p_driver.specs.Happenings.{next_at, stream_at, said, says_by, taken};
 ghost use Rattle.p2p_driver.specs.Happenings.{answered_in};
-ghost use Rattle.p2p_driver.specs.Happenings.Happening.{SetCame, Claimed, Refused};
+ghost use Rattle.p2p_driver.specs.Happenings.Happening.{SetCame, Claimed, Refused, Heard};
+ghost use Rattle.p2p_driver.specs.Frames.{Cause, Outcome};
 ghost use Rattle.p2p_driver.specs.Links.{link_of, closed};
-ghost use Rattle.p2p_driver.specs.Laws.{Begins, closes};
+ghost use Rattle.p2p_driver.specs.Laws.{Begins, closes, is_served, HasGreeted};
+ghost use Rattle.p2p_driver.specs.Laws.{has_greeted, cut_by, Blames, bare, asked_on, lists_on};
 ghost use Rattle.p2p_driver.specs.Drivers.{DriverView, Base, DriverStandsAt, AreRight, link};
-ghost use Rattle.p2p_driver.specs.Drivers.{may_come, no_proof};
+ghost use Rattle.p2p_driver.specs.Drivers.{IsRight, may_come, no_proof};
 ghost use Rattle.p2p_driver.specs.Answers.{times_of};
 ghost use Rattle.p2p_driver.specs.Rates.{count_in};
 
 use crate::actions::Why;
 use crate::links::{Held, Phase};
 use crate::origin::Origin;
+use p2p_directory::node::wire::Frames;
 use p2p_discovery::codec::PublicKey;
 use std::time::Duration;
 
@@ -36,6 +42,7 @@ use std::time::Duration;
 ///
 /// - By what it did, a peer has a link exactly if it is reserved or connected in the world that the
 ///   calls of its node make.
+/// - It is connected there exactly if it has a link on which it has greeted.
 /// - The node of a driver that did it holds reservations of exactly the peers that have a link.
 /// - The links that the driver keeps are those by what it did.
 /// - The calls are accepted calls of the node, so all laws of runs hold of them.
@@ -45,6 +52,11 @@ pub fn links_are_reservations<C: PublicKey>()
         1 ≤ b.made.directory.max_sets → (h : List (Happening C C.Signature)) → AreRight b h →
         (p : C) →
         is_some (link b p h) ≡ is_busy_in (world_after b.made.directory (calls_of h)) p }
+    ensures connected { (b : Base C C.Signature) → b.made.directory.cmp ≡ C.cmp →
+        1 ≤ b.made.directory.max_sets → (h : List (Happening C C.Signature)) → AreRight b h →
+        (p : C) → let s = b.made.directory in
+        is_active ((world_after s (calls_of h)).peer p).status
+        ≡ (is_some (link b p h) && has_greeted s p h) }
     ensures held { (b : Base C C.Signature) → b.made.directory.cmp ≡ C.cmp →
         1 ≤ b.made.directory.max_sets → (h : List (Happening C C.Signature))
         (v : DriverView C C.Signature) → DriverStandsAt b h v → (p : C) →
@@ -82,6 +94,12 @@ pub fn one_link<C: PublicKey>()
 ///   set or more.
 /// - The link of each of these is closing then, and every other link is as before.
 /// - If it wasn't closing before, its close is said.
+///
+/// It closes at once the link of a peer that the application blocks or parts from, that broke a
+/// rule, or that sent an info of the future.
+///
+/// - If that peer has a link, it is closing then.
+/// - If it wasn't closing before, its close is said, for that reason.
 pub fn closed_at_once<C: PublicKey>()
     ensures torn { (b : Base C C.Signature) → b.made.directory.cmp ≡ C.cmp →
         1 ≤ b.made.directory.max_sets → (h : List (Happening C C.Signature))
@@ -101,6 +119,15 @@ pub fn closed_at_once<C: PublicKey>()
         let s = b.made.directory in let e = SetCame t index primary secondary torn in
         has_key s.cmp torn p ≡ true → link b p h ≡ Some held → ¬ (held.phase ≡ Phase.Closing) →
         Contains (says_by s b.greeting h e) (closes held.number Why.NoSet) }
+    ensures cut { (b : Base C C.Signature) (h : List (Happening C C.Signature))
+        (e : Happening C C.Signature) (p : C) (why : Why) →
+        cut_by b.made.directory p e ≡ Some why →
+        link b p (e ∷ h) ≡ option_map closed (link b p h) }
+    ensures cut_said { (b : Base C C.Signature) → b.made.directory.cmp ≡ C.cmp →
+        (h : List (Happening C C.Signature)) (e : Happening C C.Signature) (p : C) (why : Why)
+        (held : Held) → let s = b.made.directory in cut_by s p e ≡ Some why →
+        link b p h ≡ Some held → ¬ (held.phase ≡ Phase.Closing) →
+        Contains (says_by s b.greeting h e) (closes held.number why) }
 {}
 
 /// By a law of drivers, no more is kept than the settings say, whatever it did that it might do.
@@ -151,6 +178,57 @@ pub fn claims_in_time<C: PublicKey>()
         AreRight b h → let burst = non_zero_u32_get b.pace.answers_of_address.burst in
         let refill = as_nanos b.pace.answers_of_address.refill in (o from size : ℕ) →
         count_in from size (times_of o (answered_in h)) * refill ≤ burst * refill + size }
+{}
+
+/// By a law of drivers, a peer is served only once it has greeted, whatever a driver did that it
+/// might do. It is served if its infos are taken, its question is answered, or its message is
+/// delivered.
+///
+/// - Its link is open then.
+/// - Since that link began, it has greeted on it, with an info of its own key.
+/// - It is connected in the world that the calls of the node make. The node retains a set or more.
+pub fn greeting_first<C: PublicKey>()
+    ensures open { (b : Base C C.Signature) → b.made.directory.cmp ≡ C.cmp →
+        (h : List (Happening C C.Signature)) (n : ℕ) (p : C) (t : Duration) (owed : ℕ)
+        (cause : Cause) (outcome : Outcome C C.Signature) →
+        AreRight b (Heard n p t owed cause outcome ∷ h) → is_served outcome ≡ true →
+        IsSomeAnd (link b p h) (λ held. held.phase ≡ Phase.Open) }
+    ensures greeted { (b : Base C C.Signature) → b.made.directory.cmp ≡ C.cmp →
+        (h : List (Happening C C.Signature)) (n : ℕ) (p : C) (t : Duration) (owed : ℕ)
+        (cause : Cause) (outcome : Outcome C C.Signature) →
+        AreRight b (Heard n p t owed cause outcome ∷ h) → is_served outcome ≡ true →
+        HasGreeted b.made.directory p h }
+    ensures connected { (b : Base C C.Signature) → b.made.directory.cmp ≡ C.cmp →
+        1 ≤ b.made.directory.max_sets → (h : List (Happening C C.Signature)) (n : ℕ) (p : C)
+        (t : Duration) (owed : ℕ) (cause : Cause) (outcome : Outcome C C.Signature) →
+        AreRight b (Heard n p t owed cause outcome ∷ h) → is_served outcome ≡ true →
+        is_active ((world_after b.made.directory (calls_of h)).peer p).status ≡ true }
+{}
+
+/// By a law of drivers, a peer is blocked only for what it did, or since the application asks for
+/// that.
+///
+/// - Each block that the node is called for was asked for by the application, or its peer broke a
+///   rule on its link then.
+/// - Of a link, what was done before and what came decide what comes of it, but for whether memory
+///   is there to ask or to block. Frames are those of nodes.
+pub fn blame<C: PublicKey>()
+    ensures blocks { (h : List (Happening C C.Signature)) (p : C) (now : ℕ) →
+        Contains (calls_of h) (Block p now) →
+        (e : Happening C C.Signature) × Contains h e × Blames p now e }
+    ensures one_cause { let wire = ⟦<C as Frames>⟧.wire in (b : Base C C.Signature) →
+        b.wire ≡ wire → (h : List (Happening C C.Signature)) (n m : ℕ) (p : C)
+        (t u : Duration) (owed other : ℕ) (cause : Cause) (x y : Outcome C C.Signature) →
+        IsRight b h (Heard n p t owed cause x) → IsRight b h (Heard m p u other cause y) →
+        bare x ≡ bare y }
+{}
+
+/// By a law of drivers, a peer sends on its link no more lists of infos that are judged than it was
+/// asked for, whatever a driver did that it might do. Frames are those of nodes.
+pub fn lists_are_asked<C: PublicKey>()
+    ensures { let wire = ⟦<C as Frames>⟧.wire in (b : Base C C.Signature) →
+        b.made.directory.cmp ≡ C.cmp → b.wire ≡ wire → (h : List (Happening C C.Signature)) →
+        AreRight b h → (p : C) → let s = b.made.directory in lists_on s p h ≤ asked_on s p h }
 {}
 
 /// By a law of drivers, the host takes what was said, all of it and in order.

@@ -4,12 +4,15 @@
 #![tactic(auto)]
 
 pub mod actions;
+pub mod admission;
 pub mod answers;
 pub mod arrivals;
 mod channels;
 mod connections;
 pub mod digest;
 pub mod driver;
+mod frames;
+mod hearing;
 pub mod laws;
 pub mod link;
 pub mod links;
@@ -17,5 +20,6 @@ pub mod origin;
 pub mod pace;
 pub mod rate;
 pub mod recommended;
+mod serving;
 mod steps;
 mod streams;

@@ -8,11 +8,13 @@ ghost use Rattle.std.specs.List.Sorted.{IsStrictlySortedBy};
 ghost use Rattle.std.specs.Map.{keys_of, values_of, remove_entry, set_value};
 ghost use Rattle.std.specs.Option.{IsSomeAnd};
 ghost use Rattle.std.specs.BTreeMap.{is_at, get, insert_entry};
-ghost use Rattle.p2p_driver.specs.Links.{link_of, need_at, needs, link_with, opened, closed};
-ghost use Rattle.p2p_driver.specs.Links.{one_if_greeting, due, is_late, sooner_of, least_due};
+ghost use Rattle.p2p_driver.specs.Links.{link_of, need_at, needs, link_with, one_if_greeting};
+ghost use Rattle.p2p_driver.specs.Links.{opened, hearing, closed, is_ungreeted, is_timed};
+ghost use Rattle.p2p_driver.specs.Links.{due, is_late, sooner_of, least_due};
 ghost use Rattle.p2p_driver.specs.Links.{AreNumbered, AreAlike, IsLeastDue};
 ghost use Rattle.p2p_driver.specs.declared.links.Held.{Held};
 
+use bytes::Bytes;
 use std::alloc::{AllocError, Global};
 use std::collections::BTreeMap;
 use std::marker::Model;
@@ -29,8 +31,21 @@ pub enum Phase {
     Closing,
 }
 
+/// A frame that waits until it is told which signatures in it are valid.
+#[derive(Debug, Drop)]
+pub struct Waiting {
+    /// The frame.
+    pub frame: Bytes,
+    /// When it came, a time since the epoch: its infos are judged by it.
+    pub wall: Duration,
+    /// How many infos it has.
+    pub infos: usize,
+    /// How many signatures decide: those of its first infos.
+    pub count: usize,
+}
+
 /// What is kept of a link.
-#[derive(Clone, Copy, Debug)]
+#[derive(Debug, Drop)]
 pub struct Held {
     /// Its number, which no other link has.
     pub number: u64,
@@ -38,42 +53,96 @@ pub struct Held {
     pub phase: Phase,
     /// When its peer's key was proved, a steady time.
     pub since: Duration,
+    /// When its peer was heard last, a steady time: at first, when its key was proved.
+    pub heard: Duration,
+    /// How many questions wait for their replies.
+    pub owed: usize,
+    /// The frame that waits on it, if one does.
+    pub waiting: Option<Waiting>,
 }
 
 impl Held {
-    // What is kept of the link once its peer has greeted.
-    fn opened(self) -> Held
-        ensures { result ≡ opened self }
+    // What is kept of the link once its peer has greeted, with so many questions.
+    fn opened(&self, now: Duration, owed: usize) -> Held
+        ensures { result ≡ opened now owed self.now }
     {
         let phase = match self.phase {
             Phase::Greeting => Phase::Open,
             phase => phase,
         };
-        Held { phase, ..self }
-    }
-
-    // What is kept of the link once it was closed.
-    fn closed(self) -> Held
-        ensures { result ≡ closed self }
-    {
         Held {
-            phase: Phase::Closing,
-            ..self
+            number: self.number,
+            phase,
+            since: self.since,
+            heard: now,
+            owed,
+            waiting: None,
         }
     }
 
-    // By when the peer has to greet, in nanoseconds.
-    fn due(self, within: Duration) -> u128
-        ensures { result ≡ due (as_nanos within) self }
+    // What is kept of the link once its peer was heard, with so many questions, and what waits.
+    fn hearing(&self, now: Duration, owed: usize, waiting: Option<Waiting>) -> Held
+        ensures { result ≡ hearing now owed waiting self.now }
     {
-        self.since.as_nanos() + within.as_nanos()
+        let waiting = match self.phase {
+            Phase::Closing => None,
+            _ => waiting,
+        };
+        Held {
+            number: self.number,
+            phase: self.phase,
+            since: self.since,
+            heard: now,
+            owed,
+            waiting,
+        }
     }
 
-    // Whether the peer greets too late.
-    fn is_late(self, within: Duration, now: Duration) -> bool
-        ensures { result ≡ is_late (as_nanos within) (as_nanos now) self }
+    // What is kept of the link once it was closed.
+    fn closed(&self) -> Held
+        ensures { result ≡ closed self.now }
     {
-        self.phase == Phase::Greeting && self.due(within) <= now.as_nanos()
+        Held {
+            number: self.number,
+            phase: Phase::Closing,
+            since: self.since,
+            heard: self.heard,
+            owed: self.owed,
+            waiting: None,
+        }
+    }
+
+    // Whether the peer hasn't greeted yet, and nothing of it waits.
+    pub(crate) fn is_ungreeted(&self) -> bool
+        ensures { result ≡ is_ungreeted self.now }
+    {
+        self.phase == Phase::Greeting && self.waiting.is_none()
+    }
+
+    // Whether the link isn't closed.
+    fn is_timed(&self) -> bool
+        ensures { result ≡ is_timed self.now.phase }
+    {
+        self.phase != Phase::Closing
+    }
+
+    // By when the peer has to be heard, in nanoseconds.
+    fn due(&self, greeting: Duration, silence: Duration) -> u128
+        ensures { result ≡ due (as_nanos greeting) (as_nanos silence) self.now }
+    {
+        if self.is_ungreeted() {
+            after(self.since, greeting)
+        } else {
+            after(self.heard, silence)
+        }
+    }
+
+    // Whether the link is late.
+    fn is_late(&self, greeting: Duration, silence: Duration, now: Duration) -> bool
+        ensures { result
+            ≡ is_late (as_nanos greeting) (as_nanos silence) (as_nanos now) self.now }
+    {
+        self.is_timed() && self.due(greeting, silence) <= now.as_nanos()
     }
 }
 
@@ -120,10 +189,10 @@ impl<C: Ord + Copy> Links<C> {
     /// # Cost
     ///
     /// One search among the links.
-    pub fn get(&self, peer: &C) -> Option<Held>
-        ensures { result ≡ link_of C.cmp self.now peer.now }
+    pub fn get(&self, peer: &C) -> Option<&Held>
+        ensures { option_map (λ h. h.now) result ≡ link_of C.cmp self.now peer.now }
     {
-        self.of_peers.get(peer).copied()
+        self.of_peers.get(peer)
     }
 
     /// The peer whose link has the number, or `None` if none has. It doesn't allocate.
@@ -195,6 +264,9 @@ impl<C: Ord + Copy> Links<C> {
             number,
             phase: Phase::Greeting,
             since,
+            heard: since,
+            owed: 0,
+            waiting: None,
         };
         if let Err(failed) = insert(&mut self.of_peers, peer, held) {
             let _peer = self.peers.remove(&number);
@@ -203,22 +275,43 @@ impl<C: Ord + Copy> Links<C> {
         Ok(())
     }
 
-    /// Notes that the peer has greeted: its link is open, if it has one that isn't closed. All
-    /// other links stay. It doesn't allocate.
+    /// Notes that the peer has greeted, and how many questions wait for their replies now:
+    /// its link is open, if it has one that isn't closed, and nothing waits on it. All other links
+    /// stay. It doesn't allocate.
     ///
     /// # Cost
     ///
     /// Two searches among the links.
-    pub fn open(&mut self, peer: &C)
-        ensures links { (q : C) → link_of C.cmp self.new q ≡
-            (if is_at (C.cmp peer.now) q then option_map opened (link_of C.cmp self.old q)
+    pub fn open(&mut self, peer: &C, now: Duration, owed: usize)
+        ensures links { (q : C) → link_of C.cmp self.new q ≡ (if is_at (C.cmp peer.now) q
+            then option_map (opened now owed) (link_of C.cmp self.old q)
             else link_of C.cmp self.old q) }
         ensures count { length self.new ≡ length self.old }
         ensures needs { needs self.new ≡
             needs self.old + one_if_greeting (link_of C.cmp self.old peer.now) }
     {
-        if let Some(held) = self.of_peers.get(peer).copied() {
-            write(&mut self.of_peers, peer, held.opened());
+        if let Some(held) = self.of_peers.get(peer) {
+            let opened = held.opened(now, owed);
+            write(&mut self.of_peers, peer, opened);
+        }
+    }
+
+    /// Notes that the peer was heard, if it has a link: when, how many questions wait for their
+    /// replies now, and what waits on its link. All other links stay. It doesn't allocate.
+    ///
+    /// # Cost
+    ///
+    /// Two searches among the links.
+    pub fn hear(&mut self, peer: &C, now: Duration, owed: usize, waiting: Option<Waiting>)
+        ensures links { (q : C) → link_of C.cmp self.new q ≡ (if is_at (C.cmp peer.now) q
+            then option_map (hearing now owed waiting) (link_of C.cmp self.old q)
+            else link_of C.cmp self.old q) }
+        ensures count { length self.new ≡ length self.old }
+        ensures needs { needs self.new ≡ needs self.old }
+    {
+        if let Some(held) = self.of_peers.get(peer) {
+            let heard = held.hearing(now, owed, waiting);
+            write(&mut self.of_peers, peer, heard);
         }
     }
 
@@ -236,8 +329,9 @@ impl<C: Ord + Copy> Links<C> {
         ensures needs { needs self.new + need_at (link_of C.cmp self.old peer.now) ≡
             needs self.old }
     {
-        if let Some(held) = self.of_peers.get(peer).copied() {
-            write(&mut self.of_peers, peer, held.closed());
+        if let Some(held) = self.of_peers.get(peer) {
+            let closed = held.closed();
+            write(&mut self.of_peers, peer, closed);
         }
     }
 
@@ -262,44 +356,53 @@ impl<C: Ord + Copy> Links<C> {
         Some(held)
     }
 
-    /// The first peer, in ascending order of the keys, that is late at the steady time `now`: it
-    /// hasn't greeted, and `within` has passed since its key was proved. `None` if none is late. It
-    /// doesn't allocate.
+    /// The first peer, in ascending order of the keys, whose link is late at the steady time `now`:
+    /// it isn't closed, and before the peer has greeted, and while nothing of it waits, `greeting`
+    /// has passed since its key was proved, else `silence` since it was heard last. `None` if none
+    /// is late. It doesn't allocate.
     ///
     /// # Cost
     ///
     /// One pass over the links.
-    pub fn late(&self, within: Duration, now: Duration) -> Option<C>
+    pub fn late(&self, greeting: Duration, silence: Duration, now: Duration) -> Option<C>
         ensures late { IfSome result (λ peer. IsSomeAnd (link_of C.cmp self.now peer)
-            (λ held. is_late (as_nanos within) (as_nanos now) held ≡ true)) }
+            (λ held. is_late (as_nanos greeting) (as_nanos silence) (as_nanos now) held ≡ true)) }
         ensures none { IfNone result ((q : C) (held : Held) →
             link_of C.cmp self.now q ≡ Some held →
-            is_late (as_nanos within) (as_nanos now) held ≡ false) }
+            is_late (as_nanos greeting) (as_nanos silence) (as_nanos now) held ≡ false) }
         ensures first { result ≡ option_map (λ e. e.0)
-            (find (λ e. is_late (as_nanos within) (as_nanos now) e.1) self.now) }
+            (find (λ e. is_late (as_nanos greeting) (as_nanos silence) (as_nanos now) e.1)
+            self.now) }
     {
         // For the proof: the contract of `len` says that the keys are in order.
         let _count = self.of_peers.len();
-        first_late(&self.of_peers, within, now)
+        first_late(&self.of_peers, greeting, silence, now)
     }
 
-    /// The first moment, in nanoseconds, at which a peer that hasn't greeted is late, `within`
-    /// after its key was proved. `None` if there is no such peer. It doesn't allocate.
+    /// The first moment, in nanoseconds, at which a link is late, as in [`late`](Self::late).
+    /// `None` if there is no link that isn't closed. It doesn't allocate.
     ///
     /// # Cost
     ///
     /// One pass over the links.
-    pub fn next_late(&self, within: Duration) -> Option<u128>
-        ensures { IsLeastDue C.cmp (as_nanos within) self.now result }
+    pub fn next_late(&self, greeting: Duration, silence: Duration) -> Option<u128>
+        ensures { IsLeastDue C.cmp (as_nanos greeting) (as_nanos silence) self.now result }
     {
         // For the proof: the contract of `len` says that the keys are in order.
         let _count = self.of_peers.len();
-        next_due(&self.of_peers, within)
+        next_due(&self.of_peers, greeting, silence)
     }
 }
 
+// The moment so long after another, in nanoseconds.
+fn after(moment: Duration, span: Duration) -> u128
+    ensures { result ≡ as_nanos moment + as_nanos span }
+{
+    moment.as_nanos() + span.as_nanos()
+}
+
 // Inserts a value at a key of which there is none.
-fn insert<K: Ord + Copy, V: Copy>(
+fn insert<K: Ord + Copy, V: Drop>(
     map: &mut BTreeMap<K, V>,
     key: K,
     value: V,
@@ -328,42 +431,49 @@ fn write<C: Ord>(of_peers: &mut BTreeMap<C, Held>, peer: &C, held: Held)
     }
 }
 
-// The first peer that greets too late.
+// The first peer whose link is late.
 fn first_late<C: Ord + Copy>(
     of_peers: &BTreeMap<C, Held>,
-    within: Duration,
+    greeting: Duration,
+    silence: Duration,
     now: Duration,
 ) -> Option<C>
     ensures { result ≡ option_map (λ e. e.0)
-        (find (λ e. is_late (as_nanos within) (as_nanos now) e.1) of_peers.now.entries) }
+        (find (λ e. is_late (as_nanos greeting) (as_nanos silence) (as_nanos now) e.1)
+        of_peers.now.entries) }
 {
     for (peer, held) in of_peers {
-        if held.is_late(within, now) {
+        if held.is_late(greeting, silence, now) {
             return Some(*peer);
         }
     }
     None
 }
 
-// The first moment, in nanoseconds, at which a peer is late.
-fn next_due<C: Ord>(of_peers: &BTreeMap<C, Held>, within: Duration) -> Option<u128>
-    ensures { result ≡ least_due (as_nanos within) None (values_of of_peers.now.entries) }
+// The first moment, in nanoseconds, at which a link is late.
+fn next_due<C: Ord>(
+    of_peers: &BTreeMap<C, Held>,
+    greeting: Duration,
+    silence: Duration,
+) -> Option<u128>
+    ensures { result ≡ least_due (as_nanos greeting) (as_nanos silence) None
+        (values_of of_peers.now.entries) }
 {
     let mut next = None;
     for (_, held) in of_peers {
-        next = sooner(next, *held, within);
+        next = sooner(next, held, greeting, silence);
     }
     next
 }
 
-// The moment, or that at which the link's peer is late, if that is sooner.
-fn sooner(next: Option<u128>, held: Held, within: Duration) -> Option<u128>
-    ensures { result ≡ sooner_of (as_nanos within) next held }
+// The moment, or that at which the link is late, if that is sooner.
+fn sooner(next: Option<u128>, held: &Held, greeting: Duration, silence: Duration) -> Option<u128>
+    ensures { result ≡ sooner_of (as_nanos greeting) (as_nanos silence) next held.now }
 {
-    if held.phase != Phase::Greeting {
+    if !held.is_timed() {
         return next;
     }
-    let due = held.due(within);
+    let due = held.due(greeting, silence);
     match next {
         Some(other) => Some(other.min(due)),
         None => Some(due),

@@ -1,8 +1,17 @@
-//! Drivers: each answer and each action of streams, of their proofs and of links, by the rules.
+//! Drivers: each answer and each action of streams, of their proofs, of links and of frames, by the
+//! rules.
 
+mod application;
+mod breaches;
+mod clocks;
+mod dropped;
 mod famine;
+mod frames;
+mod judged;
 mod late;
+mod later;
 mod links;
+mod questions;
 mod rooms;
 mod sets;
 mod streams;

@@ -1,10 +1,13 @@
 //! What the tests of a driver share: drivers with the recommended settings, streams, and actions
 //! that can be compared.
 
-use lines::{command, setup};
+use bytes::Bytes;
+use lines::{command, info, setup};
 use p2p_directory::run::Command;
-use p2p_discovery::codec::TestKey;
+use p2p_discovery::codec::{TestKey, Write};
+use p2p_discovery::discovery::{Info, Infos, Payload};
 use p2p_driver::actions::{Action, Event, Why};
+use p2p_driver::admission::{Admission, Heard, Misjudged};
 use p2p_driver::driver::{Driver, Tracked};
 use p2p_driver::link::{Link, Now};
 use p2p_driver::pace::Pace;
@@ -53,11 +56,16 @@ pub fn driven<T, F: FnOnce(&mut Driver<TestKey>) -> T>(
 }
 
 /// The times of a tested call: a steady one in milliseconds, and a wall clock that goes back
-/// meanwhile, by which a driver without frames doesn't go.
+/// meanwhile from 1,000 s.
 pub fn at(millis: u64) -> Now {
+    at_wall(millis, 1_000_000u64.saturating_sub(millis))
+}
+
+/// The times of a tested call: a steady one and that of a wall clock, both in milliseconds.
+pub fn at_wall(millis: u64, wall: u64) -> Now {
     Now {
         steady: Duration::from_millis(millis),
-        wall: Duration::from_millis(1_000_000u64.saturating_sub(millis)),
+        wall: Duration::from_millis(wall),
     }
 }
 
@@ -121,4 +129,74 @@ pub fn prove(
     let (number, claimed) = claim(driver, last, peer, millis)?;
     let proved = driver.proved(Link(number), TestKey(peer), 0, at(millis))?;
     Ok((number, claimed, proved))
+}
+
+/// The frame of these bytes, for a tested driver.
+pub fn frame(alloc: Global, bytes: &[u8]) -> Result<Bytes, AllocError> {
+    Bytes::copy_from_slice(alloc, bytes)
+}
+
+/// The tested greeting with the info of a word such as `1@1000`, which its key has signed.
+pub fn greeting(alloc: Global, word: &'static str) -> Result<Bytes, Fail> {
+    Ok(Payload::Greeting(info(alloc, word)?).encode(alloc)?)
+}
+
+/// The tested infos of such words.
+pub fn infos(alloc: Global, words: &[&'static str]) -> Result<Vec<Info<TestKey>>, Fail> {
+    let mut infos = Vec::new(alloc);
+    for word in words {
+        infos.push(info(alloc, *word)?)?;
+    }
+    Ok(infos)
+}
+
+/// The tested frame of a list of such infos, or no bytes if these are too many for one.
+pub fn list(alloc: Global, words: &[&'static str]) -> Result<Bytes, Fail> {
+    let infos = infos(alloc, words)?;
+    if infos.len() >= 4_294_967_296 {
+        return Ok(Bytes::new());
+    }
+    Ok(Payload::Peers(Infos::from_vec(infos)).encode(alloc)?)
+}
+
+/// What becomes of a frame of these bytes that comes on link 1 of a tested driver.
+pub fn admit(
+    alloc: Global,
+    driver: &mut Driver<TestKey>,
+    bytes: &[u8],
+    millis: u64,
+) -> Result<Admission, AllocError> {
+    Ok(driver.admit(Link(1), &frame(alloc, bytes)?, at(millis)))
+}
+
+/// What a tested driver answers to the greeting with this info on link 1, and what comes of it at
+/// the same time if its signature is valid.
+pub fn greet(
+    alloc: Global,
+    driver: &mut Driver<TestKey>,
+    word: &'static str,
+    millis: u64,
+) -> Result<(Admission, Result<Heard, Misjudged>), Fail> {
+    let admission = driver.admit(Link(1), &greeting(alloc, word)?, at(millis));
+    let heard = driver.judged(Link(1), &[true], at(millis));
+    Ok((admission, heard))
+}
+
+/// Has a tested driver track peers by a line such as `track 0 1,2`, lets peer 1 in at 1 s, and has
+/// it greet at 2 s with an info of 1 s. What is said is taken. Returns whether it greeted.
+pub fn open(alloc: Global, driver: &mut Driver<TestKey>, line: &'static str) -> Result<bool, Fail> {
+    track(alloc, driver, line, 0)?;
+    prove(driver, 1, 1, 1_000)?;
+    let (_, heard) = greet(alloc, driver, "1@1000", 2_000)?;
+    next_two(driver);
+    next(driver);
+    Ok(heard == Ok(Heard::Greeted))
+}
+
+/// Whether the next action of a tested driver sends this frame on link 1.
+pub fn sends(driver: &mut Driver<TestKey>, frame: &[u8]) -> bool {
+    match driver.next_action() {
+        Some(Action::Send { link, frame: sent }) => link == Link(1) && sent.as_slice() == frame,
+        _ => false,
+    }
 }

@@ -1,6 +1,7 @@
-//! Links: by peer and by number, how far each is, and who greets too late.
+//! Links: by peer and by number, how far each is, how its peer was heard, and who is late.
 
-use p2p_driver::links::{Links, Phase};
+use bytes::Bytes;
+use p2p_driver::links::{Links, Phase, Waiting};
 use std::alloc::{AllocError, Global};
 use std::process::Abort;
 use std::test::Fail;
@@ -64,11 +65,11 @@ fn phases(alloc: Global) -> Result<[Option<Phase>; 5], AllocError> {
     let mut links = Links::new(alloc);
     put(&mut links, 70, 1, 0)?;
     put(&mut links, 50, 2, 0)?;
-    links.open(&70);
+    links.open(&70, Duration::from_secs(1), 1);
     let opened = [phase(&links, 70), phase(&links, 50), phase(&links, 60)];
     links.close(&50);
     let closed = phase(&links, 50);
-    links.open(&50);
+    links.open(&50, Duration::from_secs(1), 1);
     let [first, second, none] = opened;
     Ok([first, second, none, closed, phase(&links, 50)])
 }
@@ -89,37 +90,122 @@ fn a_link_opens_and_closes(rt: HostRuntime) -> Result<(), Fail> {
     Ok(())
 }
 
+// What waits: a frame with 3 infos, of which 2 are new, which came at 1 s since the epoch.
+fn waiting(alloc: Global) -> Result<Option<Waiting>, AllocError> {
+    Ok(Some(Waiting {
+        frame: Bytes::copy_from_slice(alloc, b"\x03")?,
+        wall: Duration::from_secs(1),
+        infos: 3,
+        count: 2,
+    }))
+}
+
+// When the peer of a link was heard last, how many questions wait for their replies, and how many
+// infos the frame has that waits.
+type Kept = (Duration, usize, Option<usize>);
+
+fn kept(links: &Links<u64>, peer: u64) -> Option<Kept> {
+    links.get(&peer).map(|held| {
+        let waiting = held.waiting.as_ref().map(|waiting| waiting.infos);
+        (held.heard, held.owed, waiting)
+    })
+}
+
+// What is kept of the link of a peer whose key was proved at 8 s, and which is heard at 9 s, with 2
+// questions and a frame that waits; of another; of the first once it has greeted at 10 s, with 3
+// questions; once it is heard again at 11 s, and its link is closed; and once it is heard at 12 s.
+fn heard(alloc: Global) -> Result<[Option<Kept>; 5], AllocError> {
+    let mut links = Links::new(alloc);
+    put(&mut links, 70, 1, 8_000)?;
+    put(&mut links, 50, 2, 8_000)?;
+    links.hear(&70, Duration::from_secs(9), 2, waiting(alloc)?);
+    let first = kept(&links, 70);
+    let other = kept(&links, 50);
+    links.open(&70, Duration::from_secs(10), 3);
+    let opened = kept(&links, 70);
+    links.hear(&70, Duration::from_secs(11), 1, waiting(alloc)?);
+    links.close(&70);
+    let closed = kept(&links, 70);
+    links.hear(&70, Duration::from_secs(12), 0, waiting(alloc)?);
+    Ok([first, other, opened, closed, kept(&links, 70)])
+}
+
+#[test]
+fn what_is_heard_is_kept_until_a_link_is_closed(rt: HostRuntime) -> Result<(), Fail> {
+    let found = heard(rt.alloc())?;
+    assert!(rt;
+        found
+            == [
+                Some((Duration::from_secs(9), 2, Some(3))),
+                Some((Duration::from_secs(8), 0, None)),
+                Some((Duration::from_secs(10), 3, None)),
+                Some((Duration::from_secs(11), 1, None)),
+                Some((Duration::from_secs(12), 0, None)),
+            ]
+    );
+    Ok(())
+}
+
+// Who is late at a time in milliseconds, if peers have 5 s to greet, and may be silent for 30 s.
+fn late(links: &Links<u64>, millis: u64) -> Option<u64> {
+    let now = Duration::from_millis(millis);
+    links.late(Duration::from_secs(5), Duration::from_secs(30), now)
+}
+
+// When the next is late, in milliseconds.
+fn next_late(links: &Links<u64>) -> Option<u128> {
+    let next = links.next_late(Duration::from_secs(5), Duration::from_secs(30));
+    next.map(|nanos| nanos / 1_000_000)
+}
+
 // Who is late 4,999 ms and 5 s after the key of one of two peers was proved, which was the first;
-// and when the next is, in milliseconds: before, once the first has greeted, and once both have.
+// and when the next is: before, once the first has greeted, and once both links are closed.
 type Lates = ([Option<u64>; 2], [Option<u128>; 3]);
 
 fn lates(alloc: Global) -> Result<Lates, AllocError> {
-    let within = Duration::from_secs(5);
     let mut links = Links::new(alloc);
     put(&mut links, 70, 1, 8_000)?;
     put(&mut links, 50, 2, 10_000)?;
-    let late = [
-        links.late(within, Duration::from_millis(12_999)),
-        links.late(within, Duration::from_secs(13)),
-    ];
-    let first = links.next_late(within);
-    links.open(&70);
-    let second = links.next_late(within);
+    let found = [late(&links, 12_999), late(&links, 13_000)];
+    let first = next_late(&links);
+    links.open(&70, Duration::from_secs(9), 1);
+    let second = next_late(&links);
     links.close(&50);
-    let last = links.next_late(within);
-    Ok((
-        late,
-        [
-            first.map(|nanos| nanos / 1_000_000),
-            second.map(|nanos| nanos / 1_000_000),
-            last.map(|nanos| nanos / 1_000_000),
-        ],
-    ))
+    links.close(&70);
+    Ok((found, [first, second, next_late(&links)]))
 }
 
 #[test]
 fn a_peer_that_does_not_greet_is_late(rt: HostRuntime) -> Result<(), Fail> {
     let found = lates(rt.alloc())?;
     assert!(rt; found == ([None, Some(70)], [Some(13_000), Some(15_000), None]));
+    Ok(())
+}
+
+// Who is late 29,999 ms and 30 s after a peer was heard that has greeted, and when the next is:
+// once it has greeted, once it was heard again, while the greeting of another waits, whose key was
+// proved before, and once it waits no longer.
+type Silents = ([Option<u64>; 2], [Option<u128>; 4]);
+
+fn silents(alloc: Global) -> Result<Silents, AllocError> {
+    let mut links = Links::new(alloc);
+    put(&mut links, 70, 1, 8_000)?;
+    links.open(&70, Duration::from_secs(9), 1);
+    let first = next_late(&links);
+    links.hear(&70, Duration::from_secs(20), 0, None);
+    let second = next_late(&links);
+    let found = [late(&links, 49_999), late(&links, 50_000)];
+    put(&mut links, 50, 2, 7_000)?;
+    links.hear(&50, Duration::from_secs(11), 0, waiting(alloc)?);
+    let third = next_late(&links);
+    links.hear(&50, Duration::from_secs(11), 0, None);
+    Ok((found, [first, second, third, next_late(&links)]))
+}
+
+#[test]
+fn a_peer_that_is_silent_is_late(rt: HostRuntime) -> Result<(), Fail> {
+    let found = silents(rt.alloc())?;
+    let next = [Some(39_000), Some(50_000), Some(41_000), Some(12_000)];
+    assert!(rt; found == ([None, Some(70)], next));
     Ok(())
 }

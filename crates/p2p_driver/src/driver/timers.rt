@@ -18,8 +18,9 @@ use std::time::Duration;
 impl<C: PublicKey> Driver<C> {
     /// Does what is due: cooldowns are forgotten and blocks end whose time is over, and each
     /// stream that is late is closed as `Slow`: one that hasn't claimed in time, or hasn't been
-    /// proved in time. So is each link whose peer hasn't greeted in time. None of these is late
-    /// afterwards. It doesn't allocate.
+    /// proved in time. So is each link whose peer hasn't greeted in time. A link whose peer wasn't
+    /// heard for too long is closed as `Silent`: after its greeting, or while it waits for its
+    /// verdict. None of these is late afterwards. It doesn't allocate.
     ///
     /// # Cost
     ///
@@ -47,7 +48,7 @@ impl<C: PublicKey> Driver<C> {
         ensures { IsNextTimeout C.cmp self.now (option_map as_nanos result) }
     {
         let stream = self.arrivals.next_late(&self.pace);
-        let link = self.links.next_late(self.pace.greeting);
+        let link = self.links.next_late(self.pace.greeting, self.pace.silence);
         let block = self.node.directory().next_unblock();
         let cooldown = self.node.next_cooled();
         earlier(
@@ -96,8 +97,9 @@ impl<C: PublicKey> Driver<C> {
             );
             return true;
         }
-        if let Some(peer) = self.links.late(self.pace.greeting, now) {
-            connections::shut(&mut self.links, &mut self.actions, &peer, Why::Slow);
+        if let Some(peer) = self.links.late(self.pace.greeting, self.pace.silence, now) {
+            let why = connections::why_late(&self.links, &peer);
+            connections::shut(&mut self.links, &mut self.actions, &peer, why);
             return true;
         }
         false

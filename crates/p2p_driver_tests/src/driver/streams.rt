@@ -1,12 +1,12 @@
 //! Streams that claim and are proved, or aren't.
 
 use crate::fixtures::{
-    SETTINGS, Said, at, claim, driven, ipv4, next, next_two, pace, prove, track,
+    SETTINGS, Said, at, claim, driven, ipv4, next, next_two, pace, prove, sends, track,
 };
 use lines::setup;
 use p2p_discovery::codec::{TestKey, Write};
 use p2p_discovery::discovery::Payload;
-use p2p_driver::actions::{Action, Why};
+use p2p_driver::actions::Why;
 use p2p_driver::driver::Driver;
 use p2p_driver::link::Link;
 use std::alloc::Global;
@@ -64,20 +64,12 @@ fn a_peer_comes_in_once_in_a_cooldown(rt: HostRuntime) -> Result<(), Fail> {
     Ok(())
 }
 
-// Whether the tested driver sends this frame on link 1, and says nothing more.
-fn sends(driver: &mut Driver<TestKey>, frame: &[u8]) -> bool {
-    let sent = match driver.next_action() {
-        Some(Action::Send { link, frame: sent }) => link == Link(1) && sent.as_slice() == frame,
-        _ => false,
-    };
-    sent && next(driver) == Said::Nothing
-}
-
+// Whether the tested driver sends its greeting, and says nothing more.
 fn greets(alloc: Global, driver: &mut Driver<TestKey>) -> Result<bool, Fail> {
     let greeting = Payload::<TestKey>::Greeting(setup(alloc, SETTINGS)?.myself).encode(alloc)?;
     track(alloc, driver, "track 0 1,2", 0)?;
     prove(driver, 1, 2, 1_000)?;
-    Ok(sends(driver, greeting.as_slice()))
+    Ok(sends(driver, greeting.as_slice()) && next(driver) == Said::Nothing)
 }
 
 #[test]

@@ -6,11 +6,16 @@ use Rattle.p2p_driver.specs.Drivers.{link}
 use Rattle.p2p_driver.specs.Links.{link_of}
 use Rattle.p2p_driver.proofs.Busy.{linked_is_busy}
 use Rattle.p2p_driver.proofs.InTime.{in_time}
+use Rattle.p2p_driver.proofs.Status.{connected_if}
 use Rattle.p2p_driver.proofs.laws.links_are_reservations.Goals as goal
 
 pub returns-clause-world : goal.returns-clause-world
 returns-clause-world g c b order some h right p =
     linked_is_busy b some (subst CmpEqualImpliesEq (sym order) g.met.C.PublicKey.exact) h right p
+
+pub returns-clause-connected : goal.returns-clause-connected
+returns-clause-connected g c b order some h right p =
+    connected_if b some (subst CmpEqualImpliesEq (sym order) g.met.C.PublicKey.exact) h right p
 
 pub returns-clause-held : goal.returns-clause-held
 returns-clause-held g c b order some h v at p =

@@ -1,10 +1,11 @@
-use Rattle.std.proofs.Common.{sym, ap, ◌∙◌, subst, find}
+use Rattle.std.proofs.Common.{◌++◌, sym, ap, ◌∙◌, subst, find}
 use Rattle.std.specs.Prelude.{nat_le}
 use Rattle.std.specs.Duration.{as_nanos}
 use Rattle.p2p_directory.specs.Received.{Wire}
 use Rattle.p2p_driver.specs.Arrivals.{has_number, deadline_of}
 use Rattle.p2p_driver.specs.Drivers.{DriverView, seen, wire_with}
-use Rattle.p2p_driver.specs.Happenings.{next_at}
+use Rattle.p2p_driver.specs.Happenings.{next_at, shut}
+use Rattle.p2p_driver.specs.Links.{link_of}
 use Rattle.p2p_driver.specs.Timers.{ClosesOne, NoneLate}
 use Rattle.p2p_driver.proofs.Driving.{goes_on}
 use Rattle.p2p_driver.proofs.DrivingSets.{room_stays}
@@ -50,7 +51,8 @@ invariant_of-self-in-Some-late g c = let d = c.self.inside in (
   goes_on _ _ _ c.self.invariant.0 (late_link g.C.Ord.cmp (wire_in g) d.node d.pace d.greeting (as_nanos d.cooldown) (as_nanos d.latest) d.next d.arrivals d.answers d.links d.actions.items
       c.in-Some-late.peer c.args.now c.shut.new.links c.shut.new.actions.items
       (ap (λ (v : DriverView g.row.C.Denot g.row.C-Signature.Denot). v.latest) c.self.view_is ∙ c.requires)
-      c.in-Some-late.ensures.late c.shut.ensures.links c.shut.ensures.count c.shut.ensures.said c.shut.ensures.needs).does,
+      c.in-Some-late.ensures.late c.shut.ensures.links c.shut.ensures.count
+      (c.shut.ensures.said ∙ ap (λ w. d.actions.items ++ shut c.in-Some-late.peer w (link_of g.C.Ord.cmp d.links c.in-Some-late.peer)) c.why_late-why.ensures) c.shut.ensures.needs).does,
   room_stays d.arrivals d.answers d.links c.shut.new.links d.actions c.shut.new.actions c.self.invariant.1 c.shut.ensures.room,
 )
 
@@ -61,7 +63,8 @@ returns-in-Some-late-clause-one g c is = let d = c.self.inside in
     c.self.view_is (late_link g.C.Ord.cmp (wire_in g) d.node d.pace d.greeting (as_nanos d.cooldown) (as_nanos d.latest) d.next d.arrivals d.answers d.links d.actions.items
     c.in-Some-late.peer c.args.now c.shut.new.links c.shut.new.actions.items
     (ap (λ (v : DriverView g.row.C.Denot g.row.C-Signature.Denot). v.latest) c.self.view_is ∙ c.requires)
-    c.in-Some-late.ensures.late c.shut.ensures.links c.shut.ensures.count c.shut.ensures.said c.shut.ensures.needs)
+    c.in-Some-late.ensures.late c.shut.ensures.links c.shut.ensures.count
+    (c.shut.ensures.said ∙ ap (λ w. d.actions.items ++ shut c.in-Some-late.peer w (link_of g.C.Ord.cmp d.links c.in-Some-late.peer)) c.why_late-why.ensures) c.shut.ensures.needs)
 
 pub returns-clause-none : goal.returns-clause-none
 returns-clause-none g c is = let d = c.self.inside in

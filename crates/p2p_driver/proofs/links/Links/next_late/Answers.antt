@@ -9,5 +9,5 @@ use Rattle.p2p_driver.proofs.links.Links.next_late.Goals as goal
 pub returns : goal.returns
 returns g c = least_found g.met.C.Ord.total c.args.self.now
     (subst (λ ls. IsStrictlySortedBy g.C.Ord.cmp (keys_of ls)) c.self.view_is c.len-count.ensures.ordered)
-    (as_nanos c.args.within) c.next_due.result
-    (c.next_due.ensures ∙ ap (λ ls. least_due (as_nanos c.args.within) None (values_of ls)) c.self.view_is)
+    (as_nanos c.args.greeting) (as_nanos c.args.silence) c.next_due.result
+    (c.next_due.ensures ∙ ap (λ ls. least_due (as_nanos c.args.greeting) (as_nanos c.args.silence) None (values_of ls)) c.self.view_is)

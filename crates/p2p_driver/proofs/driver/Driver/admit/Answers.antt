@@ -1,0 +1,45 @@
+use Rattle.std.proofs.Common.{◌∙◌, refl, sym, ap, subst}
+use Rattle.std.specs.Prelude.{option_map}
+use Rattle.std.specs.Duration.{as_nanos}
+use Rattle.p2p_directory.specs.Received.{Wire}
+use Rattle.p2p_driver.specs.Admissions.{SeenIn}
+use Rattle.p2p_driver.specs.Drivers.{seen, wire_with}
+use Rattle.p2p_driver.proofs.DrivingFrames.{came_on, linked_as}
+use Rattle.p2p_driver.proofs.Fewer.{none_of}
+use Rattle.p2p_driver.proofs.driver.Driver.admit.Given as given
+use Rattle.p2p_driver.proofs.driver.Driver.admit.Goals as goal
+
+-- how keys are, by the type of the keys
+abbrev wire_in : (g : given.Over) → Wire g.row.C.Denot g.row.C-Signature.Denot
+wire_in g = wire_with g.C.PublicKey.verifies g.C.FixedBytes.spelled g.C.Signature.FixedBytes.spelled g.C.FixedBytes.SIZE
+    g.C.FixedBytes.value g.C.Signature.FixedBytes.SIZE g.C.Signature.FixedBytes.value
+
+pub came-requires : goal.came-requires
+came-requires g c =
+    let held = c.in-Some-get.held.now in
+    let linked = sym c.get.ensures ∙ ap (option_map (λ h. h.now)) c.in-Some-get.is in
+    came_on g.C.Ord.cmp (wire_in g) c.args.link.0 c.in-Some.peer held.owed c.args.frame.now c.args.now.wall c.first-came.result
+    (seen c.self.inside.node c.self.inside.pace c.self.inside.greeting (as_nanos c.self.inside.cooldown) (as_nanos c.self.inside.latest)
+    c.self.inside.next c.self.inside.arrivals c.self.inside.answers c.self.inside.links c.self.inside.actions.items)
+    c.args.self.now held c.self.view_is linked
+    (linked_as g.C.Ord.cmp c.self.inside.links c.in-Some.peer held c.args.link.0 linked c.in-Some.ensures.found) refl
+    (none_of held.waiting (sym c.is_some.ensures ∙ c.if-is_some.false))
+    (subst (λ ph. SeenIn g.C.Ord.cmp (wire_in g) ph c.in-Some.peer held.owed c.args.frame.now c.args.now.wall c.first-came.result
+    (seen c.self.inside.node c.self.inside.pace c.self.inside.greeting (as_nanos c.self.inside.cooldown) (as_nanos c.self.inside.latest)
+    c.self.inside.next c.self.inside.arrivals c.self.inside.answers c.self.inside.links c.self.inside.actions.items).node)
+    (sym c.in-Greeting.is) c.first-came.ensures)
+
+pub came-requires-in-Open : goal.came-requires-in-Open
+came-requires-in-Open g c =
+    let held = c.in-Some-get.held.now in
+    let linked = sym c.get.ensures ∙ ap (option_map (λ h. h.now)) c.in-Some-get.is in
+    came_on g.C.Ord.cmp (wire_in g) c.args.link.0 c.in-Some.peer held.owed c.args.frame.now c.args.now.wall c.next-came.result
+    (seen c.self.inside.node c.self.inside.pace c.self.inside.greeting (as_nanos c.self.inside.cooldown) (as_nanos c.self.inside.latest)
+    c.self.inside.next c.self.inside.arrivals c.self.inside.answers c.self.inside.links c.self.inside.actions.items)
+    c.args.self.now held c.self.view_is linked
+    (linked_as g.C.Ord.cmp c.self.inside.links c.in-Some.peer held c.args.link.0 linked c.in-Some.ensures.found) refl
+    (none_of held.waiting (sym c.is_some.ensures ∙ c.if-is_some.false))
+    (subst (λ ph. SeenIn g.C.Ord.cmp (wire_in g) ph c.in-Some.peer held.owed c.args.frame.now c.args.now.wall c.next-came.result
+    (seen c.self.inside.node c.self.inside.pace c.self.inside.greeting (as_nanos c.self.inside.cooldown) (as_nanos c.self.inside.latest)
+    c.self.inside.next c.self.inside.arrivals c.self.inside.answers c.self.inside.links c.self.inside.actions.items).node)
+    (sym c.in-Open.is) c.next-came.ensures)

@@ -1,0 +1,109 @@
+-- What calls answer to frames and verdicts: v before the call, v2 after it.
+use Rattle.std.specs.Prelude.{ℕ, ◌≡◌, Bool, true, false, List, [], length, Option, Some, None}
+use Rattle.std.specs.Prelude.{is_some, Result, Ok, Err}
+use Rattle.std.specs.Option.{IsSomeAnd}
+use Rattle.std.specs.declared.cmp.Ordering.{Ordering}
+use Rattle.std.specs.declared.time.Duration.{Duration}
+use Rattle.p2p_discovery.specs.Judgement.{judge_of}
+use Rattle.p2p_directory.specs.Nodes.{NodeView}
+use Rattle.p2p_directory.specs.Received.{Wire}
+use Rattle.p2p_driver.specs.Drivers.{DriverView, DoesAt}
+use Rattle.p2p_driver.specs.Frames.{Cause, Outcome, is_greeting_frame, is_unasked}
+use Rattle.p2p_driver.specs.Frames.Cause.{OfFrame, OfVerdicts}
+use Rattle.p2p_driver.specs.Happenings.{Happening}
+use Rattle.p2p_driver.specs.Hearing.{IsMessage, TellsFirst, TellsNext}
+use Rattle.p2p_driver.specs.Links.{link_of}
+use Rattle.p2p_driver.specs.declared.actions.Why.TheVariants as why
+use Rattle.p2p_driver.specs.declared.admission.Admission.{Admission}
+use Rattle.p2p_driver.specs.declared.admission.Admission.TheVariants as admission
+use Rattle.p2p_driver.specs.declared.admission.Heard.{Heard}
+use Rattle.p2p_driver.specs.declared.admission.Heard.TheVariants as heard
+use Rattle.p2p_driver.specs.declared.admission.Misjudged.{Misjudged}
+use Rattle.p2p_driver.specs.declared.frames.Came.{Came}
+use Rattle.p2p_driver.specs.declared.links.Held.{Held}
+use Rattle.p2p_driver.specs.declared.links.Phase.{Phase}
+use Rattle.p2p_driver.specs.declared.links.Phase.TheVariants as phase
+use Rattle.p2p_driver.specs.declared.links.Waiting.{Waiting}
+
+-- what is returned for an outcome, once a frame is done with
+abbrev pub IsReturned : {C S : Type 0} → List ℕ → Outcome C S → Heard → Type 0
+IsReturned frame (Outcome.Greets info question) r = r ≡ heard.Greeted
+IsReturned frame (Outcome.Takes infos) r = r ≡ heard.Applied (length infos)
+IsReturned frame (Outcome.Answers reply) r = r ≡ heard.Answered
+IsReturned frame (Outcome.Delivers message) r = (start : ℕ)
+    × (r ≡ heard.Message message.channel (record { start = start; end = length frame }))
+    × IsMessage frame message.channel start message
+IsReturned frame (Outcome.Breaks breach blocked) r = r ≡ heard.Closing (why.Breach breach)
+IsReturned frame Outcome.IsEarly r = r ≡ heard.Closing why.Future
+IsReturned frame outcome r = ⊥
+
+-- .. when the frame came
+abbrev pub IsAdmitted : {C S : Type 0} → List ℕ → Outcome C S → Admission → Type 0
+IsAdmitted frame (Outcome.Waits w) (admission.Verify count) = count ≡ w.count
+IsAdmitted frame Outcome.Ignores admission.Ignored = Unit {0}
+IsAdmitted frame outcome (admission.Heard r) = IsReturned frame outcome r
+IsAdmitted frame outcome a = ⊥
+
+-- a frame is read, which may want memory: before the greeting one that begins as one, and after it
+-- all but greetings and lists that nobody asked for
+abbrev pub IsRead : Phase → ℕ → List ℕ → Type 0
+IsRead phase.Greeting owed frame = is_greeting_frame frame ≡ true
+IsRead phase.Open owed frame = (is_greeting_frame frame ≡ false) × (is_unasked owed frame ≡ false)
+IsRead phase.Closing owed frame = ⊥
+
+module _ {C S : Type 0} (cmp : C → C → Ordering) where
+  -- a link has the number, and this holds of it
+  abbrev pub HasLink : ℕ → DriverView C S → (Held → Type 0) → Type 0
+  HasLink n v P = (p : C) × (held : Held) × (link_of cmp v.links p ≡ Some held)
+      × (held.number ≡ n) × P held
+
+  -- no link has it
+  abbrev pub HasNoLink : ℕ → DriverView C S → Type 0
+  HasNoLink n v = (p : C) (held : Held) → link_of cmp v.links p ≡ Some held →
+      held.number ≡ n → ⊥
+
+module _ {C S : Type 0} (cmp : C → C → Ordering) (wire : Wire C S) where
+  -- the peer of link n is heard, and such an outcome comes of it
+  abbrev pub HearsOf : ℕ → Cause → ℕ → (Outcome C S → Type 0) → DriverView C S → DriverView C S →
+      Type 0
+  HearsOf n cause now Is v v2 = (p : C) × (owed : ℕ) × (outcome : Outcome C S) × Is outcome
+      × DoesAt cmp wire now (λ t. Happening.Heard n p t owed cause outcome) v v2
+
+  -- `admit`
+  abbrev pub AnswersFrame : ℕ → List ℕ → Duration → ℕ → Admission → DriverView C S →
+      DriverView C S → Type 0
+  AnswersFrame n frame wall now admission.Unknown v v2 = (v2 ≡ v) × HasNoLink cmp n v
+  AnswersFrame n frame wall now admission.Closing v v2 = (v2 ≡ v)
+      × HasLink cmp n v (λ held. held.phase ≡ phase.Closing)
+  AnswersFrame n frame wall now admission.Unasked v v2 = (v2 ≡ v)
+      × HasLink cmp n v (λ held. is_some held.waiting ≡ true)
+  AnswersFrame n frame wall now (admission.Heard heard.Dropped) v v2 = (v2 ≡ v)
+      × HasLink cmp n v (λ held. (held.waiting ≡ None) × IsRead held.phase held.owed frame)
+  AnswersFrame n frame wall now a v v2 =
+      HearsOf n (OfFrame frame wall) now (λ outcome. IsAdmitted frame outcome a) v v2
+
+  -- `judged`
+  abbrev pub AnswersVerdicts : ℕ → List Bool → ℕ → Result Heard Misjudged → DriverView C S →
+      DriverView C S → Type 0
+  AnswersVerdicts n verdicts now (Err e) v v2 = (v2 ≡ v)
+      × ((p : C) (held : Held) (w : Waiting) → link_of cmp v.links p ≡ Some held →
+      held.number ≡ n → held.waiting ≡ Some w → ¬ (length verdicts ≡ w.count))
+  AnswersVerdicts n verdicts now (Ok heard.Dropped) v v2 = (v2 ≡ v)
+      × HasLink cmp n v (λ held. is_some held.waiting ≡ true)
+  AnswersVerdicts n verdicts now (Ok r) v v2 =
+      HearsOf n (OfVerdicts verdicts) now (λ outcome. IsReturned [] outcome r) v v2
+
+-- WHAT IS SEEN OF A FRAME that came on link n of p, of which nothing waits: if so many questions
+-- are owed
+module _ {C S : Type 0} (cmp : C → C → Ordering) (wire : Wire C S) where
+  abbrev pub SeenIn : Phase → C → ℕ → List ℕ → Duration → Came → NodeView C S → Type 0
+  SeenIn phase.Greeting p owed frame wall c node = TellsFirst cmp wire node.limits
+      (judge_of cmp wire.verifies node.verifier) p frame wall c
+  SeenIn phase.Open p owed frame wall c node = TellsNext cmp wire node.limits
+      (judge_of cmp wire.verifies node.verifier) owed frame wall c
+  SeenIn phase.Closing p owed frame wall c node = ⊥
+
+  abbrev pub CameOn : ℕ → C → ℕ → List ℕ → Duration → Came → DriverView C S → Type 0
+  CameOn n p owed frame wall c v = IsSomeAnd (link_of cmp v.links p) (λ held.
+      (held.number ≡ n) × (held.owed ≡ owed) × (held.waiting ≡ None)
+      × SeenIn held.phase p owed frame wall c v.node)

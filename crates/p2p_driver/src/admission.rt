@@ -1,0 +1,48 @@
+//! What becomes of a frame that comes on a link.
+
+use crate::actions::Why;
+use std::ops::Range;
+
+/// What becomes of a frame that came.
+#[derive(Clone, Debug, PartialEq, Eq, Drop)]
+pub enum Admission {
+    /// There is no such link. Nothing has changed.
+    Unknown,
+    /// The link is closing. Nothing has changed.
+    Closing,
+    /// Another frame of the link waits for verdicts. Nothing has changed.
+    Unasked,
+    /// It is a list of infos that nobody asked for. It isn't read.
+    Ignored,
+    /// It waits for so many verdicts: whether the signatures of its first infos are valid.
+    Verify(usize),
+    /// It is done with.
+    Heard(Heard),
+}
+
+/// What came of a frame that is done with.
+#[derive(Clone, Debug, PartialEq, Eq, Drop)]
+pub enum Heard {
+    /// The peer has greeted: its info was applied, and it is asked.
+    Greeted,
+    /// So many infos were applied.
+    Applied(usize),
+    /// A question was answered.
+    Answered,
+    /// An allocation failed. Nothing has changed, and the frame or the verdicts may be handed in
+    /// again.
+    Dropped,
+    /// A message is to be delivered.
+    Message {
+        /// On which channel.
+        channel: u64,
+        /// Which bytes of the frame it is.
+        message: Range<usize>,
+    },
+    /// The link is closed, and why.
+    Closing(Why),
+}
+
+/// No frame of such a link waits for so many verdicts. Nothing has changed.
+#[derive(Clone, Copy, Debug, PartialEq, Eq)]
+pub struct Misjudged;
