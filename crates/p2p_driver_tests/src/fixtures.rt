@@ -55,6 +55,18 @@ pub fn driven<T, F: FnOnce(&mut Driver<TestKey>) -> T>(
     Ok(found)
 }
 
+/// What is found by a driver of a node with the settings of tests, as [`driven`] does. For the
+/// proof: it names no lifetime, so what is called may hold references of several.
+pub fn tested<T, F: FnOnce(&mut Driver<TestKey>) -> T>(
+    alloc: Global,
+    pace: Pace,
+    find: F,
+) -> Result<T, Fail>
+    requires { F.IsAlwaysCallable find }
+{
+    driven(alloc, SETTINGS, pace, find)
+}
+
 /// The times of a tested call: a steady one in milliseconds, and a wall clock that goes back
 /// meanwhile from 1,000 s.
 pub fn at(millis: u64) -> Now {

@@ -1,7 +1,8 @@
 //! Rules that a peer breaks: it is blocked, and its link is closed.
 
 use crate::fixtures::{
-    SETTINGS, Said, admit, at, claim, driven, greet, greeting, next_two, open, pace, prove, track,
+    SETTINGS, Said, admit, at, claim, driven, greet, greeting, next_two, open, pace, prove, tested,
+    track,
 };
 use p2p_directory::record::Status;
 use p2p_discovery::codec::{CodecError, TestKey, What};
@@ -41,9 +42,7 @@ fn first(alloc: Global, driver: &mut Driver<TestKey>, bytes: &[u8]) -> Result<Br
 fn a_peer_greets_first(rt: HostRuntime) -> Result<(), Fail> {
     let alloc = rt.alloc();
     for (bytes, breach) in FIRST {
-        let found = driven(alloc, SETTINGS, pace(alloc), |driver| {
-            first(alloc, driver, bytes)
-        })??;
+        let found = tested(alloc, pace(alloc), |driver| { first(alloc, driver, bytes) })??;
         let (came, said, then, until) = found;
         let why = Why::Breach(breach);
         assert_eq!(rt; came, Admission::Heard(Heard::Closing(why)));
@@ -90,9 +89,7 @@ fn after(alloc: Global, driver: &mut Driver<TestKey>, bytes: &[u8]) -> Result<Br
 fn a_peer_that_has_greeted_breaks_rules(rt: HostRuntime) -> Result<(), Fail> {
     let alloc = rt.alloc();
     for (bytes, breach) in NEXT {
-        let found = driven(alloc, SETTINGS, pace(alloc), |driver| {
-            after(alloc, driver, bytes)
-        })??;
+        let found = tested(alloc, pace(alloc), |driver| { after(alloc, driver, bytes) })??;
         let (came, said, then, until) = found;
         let why = Why::Breach(breach);
         assert_eq!(rt; came, Admission::Heard(Heard::Closing(why)));

@@ -2,7 +2,7 @@
 
 use crate::fixtures::{
     SETTINGS, Said, admit, at, at_wall, driven, frame, greeting, list, next, next_two, open, pace,
-    prove, track,
+    prove, tested, track,
 };
 use p2p_discovery::codec::TestKey;
 use p2p_driver::actions::{Event, Why};
@@ -71,7 +71,7 @@ fn a_frame_ends_the_silence(rt: HostRuntime) -> Result<(), Fail> {
     // A message, a question, the empty list, and a list that nobody asked for.
     let frames: [&'static [u8]; 4] = [&[0, 3, 0], &[2, 0, 2, 0], &[3, 0], &[3, 1]];
     for bytes in frames {
-        let found = driven(alloc, SETTINGS, pace(alloc), |driver| {
+        let found = tested(alloc, pace(alloc), |driver| {
             heard_again(alloc, driver, bytes)
         })??;
         assert_eq!(rt; found, (Said::Nothing, silent()));
@@ -99,7 +99,7 @@ fn list_waits(
 fn a_list_that_waits_ends_the_silence_and_so_does_its_verdict(rt: HostRuntime) -> Result<(), Fail> {
     let alloc = rt.alloc();
     for (is_judged, millis) in [(false, 170_000u64), (true, 180_000u64)] {
-        let found = driven(alloc, SETTINGS, pace(alloc), |driver| {
+        let found = tested(alloc, pace(alloc), |driver| {
             list_waits(alloc, driver, is_judged, millis)
         })??;
         assert_eq!(rt; found, (Said::Nothing, silent()));
@@ -155,9 +155,7 @@ fn jumps(
 fn a_wall_clock_that_jumps_moves_no_deadline(rt: HostRuntime) -> Result<(), Fail> {
     let alloc = rt.alloc();
     for wall in [0u64, 1_000_000, u64::MAX] {
-        let found = driven(alloc, SETTINGS, pace(alloc), |driver| {
-            jumps(alloc, driver, wall)
-        })??;
+        let found = tested(alloc, pace(alloc), |driver| { jumps(alloc, driver, wall) })??;
         let wake = Some(Duration::from_secs(130));
         assert_eq!(rt; found, (Said::Nothing, silent(), wake));
     }

@@ -1,7 +1,7 @@
 //! Verdicts: infos that are refused, and those of the future.
 
 use crate::fixtures::{
-    SETTINGS, Said, at, driven, greeting, list, next, next_two, open, pace, prove, track,
+    SETTINGS, Said, at, driven, greeting, list, next, next_two, open, pace, prove, tested, track,
 };
 use p2p_discovery::codec::TestKey;
 use p2p_discovery::discovery::Error;
@@ -62,7 +62,7 @@ fn a_greeting_of_the_future_is_closed_alone(rt: HostRuntime) -> Result<(), Fail>
     let alloc = rt.alloc();
     // It came at 998 s, and the bound is 30 s.
     for right in [true, false] {
-        let found = driven(alloc, SETTINGS, pace(alloc), |driver| {
+        let found = tested(alloc, pace(alloc), |driver| {
             greets(alloc, driver, "1@1028001", right)
         })??;
         let (came, heard, said, until, known) = found;
@@ -183,7 +183,7 @@ fn a_list_is_refused_whole(rt: HostRuntime) -> Result<(), Fail> {
     let alloc = rt.alloc();
     for case in &CASES {
         let (words, verdicts, why) = (case.words, case.verdicts, case.why);
-        let found = driven(alloc, SETTINGS, pace(alloc), |driver| {
+        let found = tested(alloc, pace(alloc), |driver| {
             refused(alloc, driver, words, verdicts)
         })??;
         let (came, heard, said, known) = found;

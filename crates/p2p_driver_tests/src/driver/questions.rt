@@ -2,7 +2,7 @@
 
 use crate::fixtures::{
     SETTINGS, Said, admit, at, at_wall, driven, frame, greet, infos, list, next, open, pace, prove,
-    sends, track,
+    sends, tested, track,
 };
 use p2p_discovery::codec::TestKey;
 use p2p_driver::admission::{Admission, Heard};
@@ -81,7 +81,7 @@ fn a_question_is_answered_with_infos_of_who_is_connected(rt: HostRuntime) -> Res
     for case in &CASES {
         let (question, words) = (case.question, case.words);
         let now = at_wall(3_000, case.wall);
-        let found = driven(alloc, SETTINGS, pace(alloc), |driver| {
+        let found = tested(alloc, pace(alloc), |driver| {
             answered(alloc, driver, question, now, words)
         })??;
         assert_eq!(rt; found, (Admission::Heard(Heard::Answered), true));
@@ -113,7 +113,7 @@ fn a_peer_is_asked_for_what_is_not_known(rt: HostRuntime) -> Result<(), Fail> {
     let alloc = rt.alloc();
     let line = Some("track 5 1,2,3,9");
     // Peers 1 and 3 are known, and the own info.
-    let found = driven(alloc, SETTINGS, pace(alloc), |driver| {
+    let found = tested(alloc, pace(alloc), |driver| {
         asks(alloc, driver, line, &["3@1000"], &[2, 5, 4, 13])
     })??;
     assert!(rt; found);
