@@ -61,7 +61,7 @@ plants 'unknown file: docs/NOWHERE.md' 'See `docs/NOWHERE.md`.'
 plants 'unknown file: nowhere.rs' 'See `nowhere.rs`.'
 plants 'unknown file: crates/NAME/nowhere' 'See `crates/NAME/nowhere`.'
 plants 'unknown identifier: Directory::nowhere' 'Call `Directory::nowhere`.'
-plants 'unknown identifier: nowhere()' 'Call `nowhere()`.'
+plants 'unknown identifier: no_such_call()' 'Call `no_such_call()`.'
 plants 'unknown identifier: NoWhere' 'A `NoWhere` is made.'
 plants 'private word: spelled' 'A key is spelled in 32 bytes.'
 plants 'private word: want of memory' 'It fails for want
