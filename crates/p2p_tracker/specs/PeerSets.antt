@@ -1,6 +1,6 @@
 -- Retained sets, the oldest first, and what they say of a key.
 use Rattle.std.specs.Prelude.{ℕ, ◌≡◌, ◌==◌, Bool, true, false, not, ◌||◌, ◌+◌, List, length, nat_lt}
-use Rattle.std.specs.Prelude.{Option, Some, None, find}
+use Rattle.std.specs.Prelude.{Option, Some, None, find, slice_get}
 use Rattle.std.specs.List.{count_by, last_or, filter}
 use Rattle.std.specs.Option.{option_map}
 use Rattle.std.specs.declared.cmp.Ordering.{Ordering}
@@ -17,6 +17,10 @@ members Secondary set = set.secondary
 -- the index of the last set
 abbrev pub latest_index : {C : Type 0} → List (SetAt C) → Option ℕ
 latest_index sets = option_map (λ set. set.index) (last_or None sets)
+
+-- the index of the set at a place, if there is one
+abbrev pub index_at : {C : Type 0} → List (SetAt C) → ℕ → Option ℕ
+index_at sets place = option_map (λ set. set.index) (slice_get sets place)
 
 -- the set with an index, if there is one
 abbrev pub set_with : {C : Type 0} → ℕ → List (SetAt C) → Option (SetAt C)

@@ -1,6 +1,6 @@
-//! Reservations as callers of a directory use them.
+//! Reservations as callers of a directory use them, and what it tells of addresses and sets.
 
-use crate::fixtures::{found_in, info, ingress, tracked};
+use crate::fixtures::{found_in, found_retaining, info, ingress, tracked};
 use p2p_discovery::codec::TestKey;
 use p2p_discovery::discovery::Info;
 use p2p_discovery::types::Ingress;
@@ -172,5 +172,48 @@ fn each_address_is_told(rt: HostRuntime) -> Result<(), Fail> {
         tells_addresses(directory, first, infos)
     })?;
     assert!(rt; told);
+    Ok(())
+}
+
+// The index of the tested directory's set at each position, and at two past those that it retains.
+fn indices(directory: &Directory<TestKey>) -> [Option<u64>; 5] {
+    [
+        directory.set_index(0),
+        directory.set_index(1),
+        directory.set_index(2),
+        directory.set_index(3),
+        directory.set_index(usize::MAX),
+    ]
+}
+
+// Lets the tested directory track a set of peer 1 with this index, and returns the indices then.
+fn indices_with(
+    directory: &mut Directory<TestKey>,
+    index: u64,
+) -> Result<[Option<u64>; 5], AllocError> {
+    let peers = tracked(directory.allocator(), &[1])?;
+    directory.track(index, peers)?;
+    Ok(indices(directory))
+}
+
+// The indices of the tested directory without a set, with one, with three, once a fourth came, of
+// which it retains three, and once one came that isn't accepted.
+fn tells_indices(directory: &mut Directory<TestKey>) -> Result<[[Option<u64>; 5]; 5], AllocError> {
+    let none = indices(directory);
+    let one = indices_with(directory, 3)?;
+    indices_with(directory, 7)?;
+    let three = indices_with(directory, 9)?;
+    let later = indices_with(directory, u64::MAX)?;
+    Ok([none, one, three, later, indices_with(directory, 8)?])
+}
+
+#[test]
+fn the_index_at_each_position_is_told(rt: HostRuntime) -> Result<(), Fail> {
+    let [none, one, three, later, stale] = found_retaining(rt.alloc(), 2, &[], tells_indices)?;
+    assert_eq!(rt; none, [None, None, None, None, None]);
+    assert_eq!(rt; one, [Some(3), None, None, None, None]);
+    assert_eq!(rt; three, [Some(3), Some(7), Some(9), None, None]);
+    assert_eq!(rt; later, [Some(7), Some(9), Some(u64::MAX), None, None]);
+    assert_eq!(rt; stale, [Some(7), Some(9), Some(u64::MAX), None, None]);
     Ok(())
 }

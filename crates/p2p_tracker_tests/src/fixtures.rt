@@ -34,9 +34,13 @@ pub fn tracked(alloc: Global, numbers: &[u64]) -> Result<TrackedPeers<TestKey>, 
     Ok(TrackedPeers::new(primary, secondary))
 }
 
-/// A directory that retains one set and requests an info again after one failed dial, a fixture of
-/// the tracker's tests. Its bootstrappers are given as keys and ports.
-fn directory_from(alloc: Global, peers: &[(u64, u16)]) -> Result<Directory<TestKey>, AllocError> {
+/// A directory that retains so many sets more than one and requests an info again after one failed
+/// dial, a fixture of the tracker's tests. Its bootstrappers are given as keys and ports.
+fn directory_from(
+    alloc: Global,
+    more: u8,
+    peers: &[(u64, u16)],
+) -> Result<Directory<TestKey>, AllocError> {
     let mut bootstrappers = Vec::new(alloc);
     for (key, port) in peers {
         bootstrappers.push((TestKey(*key), ingress(*port)))?;
@@ -44,7 +48,7 @@ fn directory_from(alloc: Global, peers: &[(u64, u16)]) -> Result<Directory<TestK
     let config = Config {
         allow_private_ips: true,
         allow_dns: true,
-        max_sets: NonZeroUsize::MIN,
+        max_sets: NonZeroUsize::MIN.saturating_add(more as usize),
         dial_fail_limit: 1,
         peer_connection_cooldown: Duration::from_secs(10),
         block_duration: Duration::from_secs(60),
@@ -52,8 +56,7 @@ fn directory_from(alloc: Global, peers: &[(u64, u16)]) -> Result<Directory<TestK
     Directory::init(alloc, bootstrappers, info(9, 8000, 0), config)
 }
 
-/// What is found in such a directory, which is dropped here alone, a fixture of the tracker's tests:
-/// each place where one is dropped takes a check as long as that of a test.
+/// What is found in such a directory that retains one set, a fixture of the tracker's tests.
 pub fn found_in<T, F: FnOnce(&mut Directory<TestKey>) -> Result<T, AllocError>>(
     alloc: Global,
     peers: &[(u64, u16)],
@@ -61,6 +64,19 @@ pub fn found_in<T, F: FnOnce(&mut Directory<TestKey>) -> Result<T, AllocError>>(
 ) -> Result<T, AllocError>
     requires { F.IsAlwaysCallable find }
 {
-    let mut directory = directory_from(alloc, peers)?;
+    found_retaining(alloc, 0, peers, find)
+}
+
+/// What is found in one that retains so many sets more, which is dropped here alone, a fixture of
+/// the tracker's tests: each place where one is dropped takes a check as long as that of a test.
+pub fn found_retaining<T, F: FnOnce(&mut Directory<TestKey>) -> Result<T, AllocError>>(
+    alloc: Global,
+    more: u8,
+    peers: &[(u64, u16)],
+    find: F,
+) -> Result<T, AllocError>
+    requires { F.IsAlwaysCallable find }
+{
+    let mut directory = directory_from(alloc, more, peers)?;
     find(&mut directory)
 }

@@ -2,7 +2,7 @@
 
 ghost use Rattle.std.specs.Prelude.{◌≡◌, true, IfOk, OnErr, length};
 ghost use Rattle.std.specs.Option.{IsSomeAnd};
-ghost use Rattle.p2p_tracker.specs.PeerSets.{latest_index, has_peers, set_with};
+ghost use Rattle.p2p_tracker.specs.PeerSets.{latest_index, index_at, has_peers, set_with};
 ghost use Rattle.p2p_tracker.specs.Seen.{peers_of};
 ghost use Rattle.p2p_tracker.specs.Private.Window.{plain_set};
 
@@ -70,6 +70,21 @@ impl<C: PublicKey> Directory<C> {
         ensures { result ≡ latest_index self.now.sets }
     {
         self.sets.latest_index()
+    }
+
+    /// The index of the directory's retained peer set at a position, counted from 0 in order of
+    /// index, or `None` if there is no such position. It doesn't allocate.
+    ///
+    /// # Cost
+    ///
+    /// Constant.
+    pub fn set_index(&self, place: usize) -> Option<u64>
+        ensures { result ≡ index_at self.now.sets place }
+    {
+        match self.sets.at(place) {
+            Some(set) => Some(set.index()),
+            None => None,
+        }
     }
 
     /// How many peer sets the directory retains: at most
