@@ -22,11 +22,13 @@ use Rattle.p2p_driver.specs.declared.links.Phase.TheVariants as phase
 use Rattle.p2p_driver.specs.declared.links.Waiting.{Waiting}
 use Rattle.p2p_driver.specs.Frames.{Cause, Outcome, IsOutcome, Spells, begins_with, is_empty_list, owed_after}
 use Rattle.p2p_driver.specs.Happenings.{Happening, calls_of, opened_by, ends_by, link_since, heard_as}
-use Rattle.p2p_driver.specs.Laws.{since_of, since_began, is_asked, is_list, asks_by, lists_by, asked_on, lists_on}
-use Rattle.p2p_driver.specs.Links.{link_with, closed}
-use Rattle.p2p_driver.specs.Drivers.{Base, AreRight, IsHeard, link, standing}
+use Rattle.p2p_driver.specs.Laws.{since_of, since_began, is_asked, is_for_set, is_list, asks_by, lists_by, asked_on, lists_on}
+use Rattle.p2p_driver.specs.Links.{link_with, asking, closed}
+use Rattle.p2p_driver.specs.Questions.{asked_after, owed_with}
+use Rattle.p2p_driver.specs.declared.questions.Question.{Question}
+use Rattle.p2p_driver.specs.Drivers.{Base, AreRight, IsHeard, IsAsked, link, standing}
 use Rattle.p2p_driver.proofs.Beginnings.{Begins, not_both, the_empty}
-use Rattle.p2p_driver.proofs.LinkHistory.{touch_by, untouched, closing_if, link_after, link_stays, link_later, link_opens, link_hears, ended_link, closed_link}
+use Rattle.p2p_driver.proofs.LinkHistory.{touch_by, untouched, closing_if, link_after, link_stays, link_later, link_opens, link_hears, link_asks, ended_link, closed_link}
 use Rattle.p2p_driver.proofs.Standing.{one_more}
 
 -- so many lists were admitted and so many questions asked, on a link that there may be
@@ -110,14 +112,23 @@ module _ {C S : Type 0} (b : Base C S) (reading : Begins b.wire) where
   pays true owed some = let more = some refl in omega (arith, more)
   pays false owed some = omega arith
 
+  -- no more than one more is owed, if a set is asked for
+  owed_up_to : (q : Option Question) (most owed : ℕ) → owed_with q most owed ≤ cond (is_for_set q) 1 0 + owed
+  owed_up_to None most owed = omega arith
+  owed_up_to (Some q) most owed = by (is_some q.index)
+    where
+      by : (x : Bool) → (if x then min (owed + 1) most else owed) ≤ cond x 1 0 + owed
+      by true = omega arith
+      by false = omega arith
+
   -- what is owed after an outcome, with the list that was admitted by it
   owed_then : (x : Outcome C S) (t : Duration) (most : ℕ) (held : Held) →
       ((w : Waiting) → x ≡ Outcome.Waits w → begins_with 3 w.frame ≡ true → 0 < held.owed) →
       cond (is_list x) 1 0 + (heard_as t (owed_after held.phase x most held.owed) x held).owed ≤ cond (is_asked x) 1 0 + held.owed
   owed_then (Outcome.Waits w) t most held some =
       let paid = pays (begins_with 3 w.frame) held.owed (some w refl) in omega (arith, paid)
-  owed_then (Outcome.Greets info (Some question)) t most held some = let up_to = no_more most held.owed in omega (arith, up_to)
-  owed_then (Outcome.Greets info None) t most held some = omega arith
+  owed_then (Outcome.Greets info question) t most held some =
+      let up_to = owed_up_to question most held.owed in omega (arith, up_to)
   owed_then (Outcome.Takes infos) t most held some = omega arith
   owed_then (Outcome.Answers reply) t most held some = omega arith
   owed_then (Outcome.Delivers message) t most held some = omega arith
@@ -224,6 +235,39 @@ module _ {C S : Type 0} (b : Base C S) (reading : Begins b.wire) where
         go false is = keeps (Happening.Heard n q t owed c x) h p (link b p h) refl (ap (λ y. y && is_list x) is) (ap (λ y. y && is_asked x) is)
             (link_hears d p q n t owed c x h ∙ ap (λ y. if y then option_map (heard_as t owed x) (link b p h) else link b p h) is) few
 
+    -- a question was due
+    asks : (n : ℕ) (p : C) (t : Duration) (owed : ℕ) (question : Option Question) (h : List (Happening C S)) →
+        IsSomeAnd (link b p h) (IsAsked b h n p t owed question) → same d p p ≡ true → Asked p h →
+        Asked p (Happening.Asked n p t owed question ∷ h)
+    asks n p t owed question h right is few = go (link b p h) refl right few
+      where
+        e : Happening C S
+        e = Happening.Asked n p t owed question
+
+        go : (o : Option Held) → link b p h ≡ o → IsSomeAnd o (IsAsked b h n p t owed question) →
+            Few (lists_on d p h) (asked_on d p h) o → Asked p (e ∷ h)
+        go None at right few = absurd right
+        go (Some held) at right few = few_at _ _ _ _ _ _
+            (more (lists_by d p) p e h false refl refl (ap is_some at))
+            (more (asks_by d p) p e h (is_for_set question) refl (ap (λ y. y && is_for_set question) is) (ap is_some at))
+            (link_asks d p p n t owed question h
+            ∙ ap (λ y. if y then option_map (λ x. asking owed (asked_after t question x.asked) x) (link b p h) else link b p h) is
+            ∙ ap (option_map (λ x. asking owed (asked_after t question x.asked) x)) at)
+            (let now = owed_up_to question b.pace.owed held.owed in let owes = right.owes in omega (arith, now, owes, few))
+
+    tried : (n : ℕ) (q : C) (t : Duration) (owed : ℕ) (question : Option Question) (h : List (Happening C S)) (p : C) →
+        IsSomeAnd (link b q h) (IsAsked b h n q t owed question) → Asked p h → Asked p (Happening.Asked n q t owed question ∷ h)
+    tried n q t owed question h p right few = go (same d q p) refl
+      where
+        go : (y : Bool) → same d q p ≡ y → Asked p (Happening.Asked n q t owed question ∷ h)
+        go true is = let at = tells_apart exact q p is in
+            subst (λ r. Asked p (Happening.Asked n r t owed question ∷ h)) (sym at)
+            (asks n p t owed question h (subst (λ r. IsSomeAnd (link b r h) (IsAsked b h n r t owed question)) at right)
+            (subst (λ r. same d r p ≡ true) at is) few)
+        go false is = keeps (Happening.Asked n q t owed question) h p (link b p h) refl refl (ap (λ y. y && is_for_set question) is)
+            (link_asks d p q n t owed question h
+            ∙ ap (λ y. if y then option_map (λ x. asking owed (asked_after t question x.asked) x) (link b p h) else link b p h) is) few
+
     all_asked : (h : List (Happening C S)) → AreRight b h → (p : C) → Asked p h
     all_asked [] right p = omega arith
     all_asked (Happening.Arrived n origin t space ∷ h) right p =
@@ -250,6 +294,7 @@ module _ {C S : Type 0} (b : Base C S) (reading : Begins b.wire) where
     all_asked (Happening.LinkLate n q t ∷ h) right p =
         closed_by (Happening.LinkLate n q t) h p (same d q p) refl refl refl refl refl (all_asked h right.2 p)
     all_asked (Happening.Heard n q t owed c x ∷ h) right p = heard n q t owed c x h p right.0 (all_asked h right.2 p)
+    all_asked (Happening.Asked n q t owed question ∷ h) right p = tried n q t owed question h p right.0 (all_asked h right.2 p)
     all_asked (Happening.Given infos t ∷ h) right p =
         stays (Happening.Given infos t) h p refl refl refl refl refl (all_asked h right.2 p)
     all_asked (Happening.Barred q t taken ∷ h) right p =

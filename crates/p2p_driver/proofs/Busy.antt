@@ -126,6 +126,8 @@ module _ {C S : Type 0} (b : Base C S) where
     linked_is_busy (Happening.Heard n q t owed cause outcome ∷ h) right p =
         kept (Happening.Heard n q t owed cause outcome) h p refl refl ∙ linked_is_busy h right.2 p
         ∙ sym (called_for (calls_of h) q t outcome p)
+    linked_is_busy (Happening.Asked n q t owed question ∷ h) right p =
+        kept (Happening.Asked n q t owed question) h p refl refl ∙ linked_is_busy h right.2 p
     linked_is_busy (Happening.Given infos t ∷ h) right p =
         kept (Happening.Given infos t) h p refl refl ∙ linked_is_busy h right.2 p
         ∙ sym (called (calls_of h) (Update infos) p)

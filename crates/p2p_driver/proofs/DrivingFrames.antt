@@ -1,5 +1,5 @@
 -- How frames make a driver stand, by its parts.
-use Rattle.std.proofs.Common.{◌≡◌, ◌==◌, Bool, true, false, ℕ, ◌+◌, ◌-◌, ◌≤◌, List, [], ◌∷◌, ◌++◌, Option, Some, None, refl, sym, ◌∙◌, ap, subst}
+use Rattle.std.proofs.Common.{◌≡◌, Bool, false, ℕ, ◌-◌, ◌≤◌, List, [], ◌∷◌, ◌++◌, Option, Some, None, refl, sym, ◌∙◌, ap, subst}
 use Rattle.std.specs.Prelude.{IfSome, length, max, if◌then◌else◌, option_map}
 use Rattle.std.specs.BTreeMap.{is_at}
 use Rattle.std.proofs.lemmas.List.{append-nil}
@@ -23,7 +23,7 @@ use Rattle.p2p_driver.specs.Frames.Cause.{OfFrame, OfVerdicts}
 use Rattle.p2p_driver.specs.Happenings.{Happening, calls_of}
 use Rattle.p2p_driver.specs.Hearing.{Follows, IsServed, IsMessage, IsServable, TellsNext}
 use Rattle.p2p_driver.specs.Links.{link_of, hearing}
-use Rattle.p2p_driver.specs.Steps.{MakesFor, IsDone, IsBlocked}
+use Rattle.p2p_driver.specs.Steps.{MakesFor, IsDone, IsBlock, IsBlocked}
 use Rattle.p2p_driver.specs.declared.actions.Action.{Action}
 use Rattle.p2p_driver.specs.declared.admission.Admission.TheVariants as admission
 use Rattle.p2p_driver.specs.declared.admission.Heard.TheVariants as heard
@@ -102,7 +102,7 @@ module _ {C S : Type 0} (cmp : C → C → Ordering) (wire : Wire C S) (node : N
       (node2 : NodeView C S) (links2 : List (C × Held)) (actions2 : List (Action C)) →
       link_of cmp links p ≡ Some held → held.number ≡ n → latest ≤ as_nanos t → Outs cmp wire v.node p held cause outcome →
       owed ≡ owed_after held.phase outcome pace.owed held.owed →
-      AtEach cmp node (λ m calls. IsDone wire m calls p t outcome) → MakesFor cmp p t outcome node node2 →
+      AtEach cmp node (λ m calls. IsDone wire m pace.refresh held.asked calls p t outcome) → MakesFor cmp p t outcome node node2 →
       Follows cmp n p t owed outcome links links2 actions actions2 →
       Does cmp wire (Happening.Heard n p t owed cause outcome) v
       (seen node2 pace greeting cooldown (as_nanos t) next arrivals answers links2 actions2)
@@ -117,7 +117,7 @@ module _ {C S : Type 0} (cmp : C → C → Ordering) (wire : Wire C S) (node : N
           number = number;
           comes = comes given (calls_of h) at.node;
           owes = subst (λ q. owed ≡ owed_after held.phase outcome q.owed held.owed) at.pace owes;
-          done = done given (calls_of h) stood;
+          done = subst (λ (q : Pace). IsDone wire b.made q.refresh held.asked (calls_of h) p t outcome) at.pace (done given (calls_of h) stood);
         }))
         after (unslotted (made given (calls_of h) stood)) follows.links_are follows.count);
   }
@@ -331,7 +331,7 @@ follows_from {cmp = cmp} {n = n} {p = p} {t = t} {owed = owed} {outcome = outcom
 
 -- a block of a peer that broke a rule is done
 pub blocked_done : {C S : Type 0} (cmp : C → C → Ordering) (wire : Wire C S) (node : NodeView C S) (p : C) (t : Duration) (x : Breach) (blocked : Option Bool) →
-    IsBlocked cmp p (as_nanos t) blocked node → AtEach cmp node (λ m calls. IsDone wire m calls p t (Outcome.Breaks x blocked))
+    IsBlocked cmp p (as_nanos t) blocked node → AtEach cmp node (λ m calls. IfSome blocked (IsBlock m calls p (as_nanos t)))
 blocked_done cmp wire node p t x None blocks given calls at = tt
 blocked_done cmp wire node p t x (Some taken) blocks given calls at = blocks given calls at
 
@@ -414,7 +414,7 @@ module _ {C S : Type 0} (cmp : C → C → Ordering) (wire : Wire C S) (node : N
       ((owed : ℕ) (l : PayloadConfig) (j : Judge C S) (shares : Shares C S) → is_greeting_frame frame ≡ false → is_unasked owed frame ≡ false →
       ComesOf cmp wire l j shares frame wall outcome → ComesNext cmp wire l j shares owed frame wall outcome) →
       IsServed cmp wire frame wall outcome node → owed ≡ owed_after f.held.phase outcome pace.owed f.held.owed →
-      AtEach cmp node (λ m calls. IsDone wire m calls p t outcome) → MakesFor cmp p t outcome node node2 →
+      AtEach cmp node (λ m calls. IsDone wire m pace.refresh f.held.asked calls p t outcome) → MakesFor cmp p t outcome node node2 →
       Follows cmp n p t owed outcome links links2 actions actions2 →
       Does cmp wire (Happening.Heard n p t owed (OfFrame frame wall) outcome) stood (left node2 links2 actions2)
   serves_on outcome node2 links2 actions2 f next_is served owes done made follows =

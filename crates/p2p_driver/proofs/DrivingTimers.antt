@@ -1,7 +1,13 @@
 -- How the time that passes makes a driver stand, by its parts.
 use Rattle.std.proofs.Common.{◌≡◌, ℕ, ◌==◌, ◌+◌, ◌≤◌, ◌<◌, Bool, true, false, not, cond, ◌&&◌, List, [], ◌∷◌, ◌++◌, Option, Some, None, find, filter, refl, sym, ◌∙◌, ap, subst}
 use Rattle.std.proofs.Common.{arith}
-use Rattle.std.specs.Prelude.{is_some, length, max, nat_le, option_map, unwrap_or}
+use Rattle.std.specs.Prelude.{is_some, length, max, nat_le, option_map, unwrap_or, IfSome, if◌then◌else◌, Result, Ok}
+use Rattle.std.specs.Result.{is_ok}
+use Rattle.std.specs.List.{list_all}
+use Rattle.std.specs.BTreeMap.{is_at}
+use Rattle.std.specs.declared.alloc.AllocError.{AllocError}
+use Rattle.std.proofs.lemmas.Map.Views.{tells_apart}
+use Rattle.std.proofs.lemmas.Map.Lookups.{CmpEqualImpliesEq}
 use Rattle.std.specs.Duration.{as_nanos}
 use Rattle.std.specs.List.{count_by}
 use Rattle.std.specs.Option.{IsSomeAnd}
@@ -10,23 +16,28 @@ use Rattle.std.specs.declared.time.Duration.{Duration}
 use Rattle.std.proofs.lemmas.Bool.Decides.{nat_tests}
 use Rattle.std.proofs.lemmas.List.{append_assoc}
 use Rattle.p2p_tracker.specs.Calls.Call.{UnblockExpired, ForgetCooled}
-use Rattle.p2p_directory.specs.Nodes.{NodeView}
+use Rattle.p2p_tracker.specs.Calls.{Call}
+use Rattle.p2p_directory.specs.Run.{world_after}
+use Rattle.p2p_directory.specs.Nodes.{NodeView, NodeStandsAt, made_of}
 use Rattle.p2p_directory.specs.Received.{Wire}
 use Rattle.p2p_driver.specs.Actions.{ActionsView}
 use Rattle.p2p_driver.specs.Answers.{AnswersView, AreKept, roomless}
 use Rattle.p2p_driver.specs.Arrivals.{has_number, is_unclaimed, deadline_of}
-use Rattle.p2p_driver.specs.Drivers.{DriverView, DriverStandsAt, IsRight, HasRoom, Does, Rise, seen, base_of}
-use Rattle.p2p_driver.specs.Happenings.{Happening, calls_of, answered_in, closing, closed_at, shut, why_late}
-use Rattle.p2p_driver.specs.Links.{link_of, needs, need_of, need_at, is_late, is_timed, due}
+use Rattle.p2p_driver.specs.Drivers.{DriverView, DriverStandsAt, IsRight, IsAsked, HasRoom, Does, Rise, seen, base_of}
+use Rattle.p2p_driver.specs.Happenings.{Happening, calls_of, answered_in, closing, closed_at, shut, asking_on, why_late}
+use Rattle.p2p_driver.specs.Links.{link_of, needs, need_of, need_at, is_late, is_timed, due, asking, is_to_ask, to_ask}
+use Rattle.p2p_driver.specs.Questions.{owed_with, asked_after, IsQuestion, IsNextQuestion}
 use Rattle.p2p_driver.specs.Steps.{Makes}
-use Rattle.p2p_driver.specs.Timers.{ClosesOne, ClosesLate, TimesOut}
+use Rattle.p2p_driver.specs.Timers.{ClosesOne, ClosesLate, AsksOne, AsksAll, was_asked, TimesOut}
 use Rattle.p2p_driver.specs.declared.actions.Action.{Action}
 use Rattle.p2p_driver.specs.declared.actions.Why.TheVariants as why
 use Rattle.p2p_driver.specs.declared.arrivals.Arrival.{Arrival}
 use Rattle.p2p_driver.specs.declared.links.Held.{Held}
 use Rattle.p2p_driver.specs.declared.links.Phase.{Phase}
 use Rattle.p2p_driver.specs.declared.links.Phase.TheVariants as phase
+use Rattle.p2p_driver.specs.declared.links.Asked.{Asked}
 use Rattle.p2p_driver.specs.declared.pace.Pace.{Pace}
+use Rattle.p2p_driver.specs.declared.questions.Question.{Question}
 use Rattle.p2p_driver.proofs.Budget.{none_below}
 use Rattle.p2p_driver.proofs.Driving.{viewed, slotted, unslotted}
 use Rattle.p2p_driver.proofs.Fewer.{leaves_fewer}
@@ -224,6 +235,97 @@ module _ {C S : Type 0} (cmp : C → C → Ordering) (wire : Wire C S) (node : N
             let some = late_needs (as_nanos pace.greeting) (as_nanos pace.silence) (as_nanos t) held late in grind (arith);
       }
 
+  -- a question was due
+  asks : (exact : CmpEqualImpliesEq cmp) (n : ℕ) (p : C) (held : Held) (t : Duration) (owed : ℕ) (question : Option Question)
+      (links2 : List (C × Held)) (actions2 : List (Action C)) →
+      latest ≡ as_nanos t → link_of cmp links p ≡ Some held → held.number ≡ n →
+      is_to_ask (as_nanos pace.tick) (as_nanos t) held ≡ true → owed ≡ owed_with question pace.owed held.owed →
+      IfSome question (λ q. IsNextQuestion cmp wire pace.refresh held.asked q node) →
+      ((q : C) → link_of cmp links2 q ≡ (if is_at (cmp p) q then option_map (asking owed (asked_after t question held.asked)) (link_of cmp links q) else link_of cmp links q)) →
+      length links2 ≡ length links → actions2 ≡ actions ++ asking_on n question →
+      Does cmp wire (Happening.Asked n p t owed question) v (seen node pace greeting cooldown latest next arrivals answers links2 actions2)
+  asks exact n p held t owed question links2 actions2 now linked number due owes next_is tied same said = record {
+    goes = λ given pace2 h at.
+        let b = base_of cmp wire given pace2 in
+        subst (DriverStandsAt b (Happening.Asked n p t owed question ∷ h))
+        (viewed (record v {
+          latest = as_nanos t;
+          links = links2;
+          actions = actions ++ asking_on n question;
+        }) node pace greeting cooldown latest next arrivals answers links2 actions2 refl refl refl refl (sym now) refl refl refl refl (sym said))
+        (Standing.asks b h v at n p t owed question links2
+        (subst (λ o. IsSomeAnd o (IsAsked b h n p t owed question)) (sym linked ∙ at.links p) (record {
+          number = number;
+          due = subst (λ (q : Pace). is_to_ask (as_nanos q.tick) (as_nanos t) held ≡ true) at.pace due;
+          owes = subst (λ (q : Pace). owed ≡ owed_with question q.owed held.owed) at.pace owes;
+          asks = subst (λ (q : Pace). IfSome question (IsQuestion wire b.made (world_after b.made.directory (calls_of h)) q.refresh held.asked)) at.pace
+              (here given (calls_of h) (slotted at.node) question next_is);
+        }))
+        (let is = now in grind (arith)) tied_at same);
+  }
+    where
+      here : (given : _) (calls : List (Call C S)) → NodeStandsAt (made_of cmp given) calls node → (x : Option Question) →
+          IfSome x (λ q. IsNextQuestion cmp wire pace.refresh held.asked q node) →
+          IfSome x (IsQuestion wire (made_of cmp given) (world_after (made_of cmp given).directory calls) pace.refresh held.asked)
+      here given calls at None is = tt
+      here given calls at (Some q) is = is given calls at
+
+      tied_at : (q : C) → link_of cmp links2 q
+          ≡ (if is_at (cmp p) q then option_map (λ x. asking owed (asked_after t question x.asked) x) (link_of cmp links q) else link_of cmp links q)
+      tied_at q = tied q ∙ go (is_at (cmp p) q) refl
+        where
+          go : (b : Bool) → is_at (cmp p) q ≡ b →
+              (if b then option_map (asking owed (asked_after t question held.asked)) (link_of cmp links q) else link_of cmp links q)
+              ≡ (if b then option_map (λ x. asking owed (asked_after t question x.asked) x) (link_of cmp links q) else link_of cmp links q)
+          go false is = refl
+          go true is = let at : link_of cmp links q ≡ Some held = sym (ap (link_of cmp links) (tells_apart exact p q is)) ∙ linked in
+              ap (option_map (asking owed (asked_after t question held.asked))) at
+              ∙ sym (ap (option_map (λ x. asking owed (asked_after t question x.asked) x)) at)
+
+  -- no link is late that wasn't
+  still_in_time : (t p_owed : ℕ) (p : C) (a : Asked) (links2 : List (C × Held)) →
+      ((q : C) → link_of cmp links2 q ≡ (if is_at (cmp p) q then option_map (asking p_owed a) (link_of cmp links q) else link_of cmp links q)) →
+      ((q : C) (h : Held) → link_of cmp links q ≡ Some h → is_late (as_nanos pace.greeting) (as_nanos pace.silence) t h ≡ false) →
+      (q : C) (h : Held) → link_of cmp links2 q ≡ Some h → is_late (as_nanos pace.greeting) (as_nanos pace.silence) t h ≡ false
+  still_in_time t p_owed p a links2 tied none q h is = go (is_at (cmp p) q) (link_of cmp links q) refl (sym (tied q) ∙ is)
+    where
+      late : Held → Bool
+      late h = is_late (as_nanos pace.greeting) (as_nanos pace.silence) t h
+
+      go : (b : Bool) (o : Option Held) → link_of cmp links q ≡ o → (if b then option_map (asking p_owed a) o else o) ≡ Some h → late h ≡ false
+      go true None at is = absurd cc
+      go true (Some x) at is = subst (λ y. late y ≡ false) (only x is) (none q x at)
+        where
+          only : (x : Held) → Some (asking p_owed a x) ≡ Some h → asking p_owed a x ≡ h
+          only x is = cc
+      go false o at is = none q h (at ∙ is)
+
+  -- one that is to be asked is
+  pub asks_one : (exact : CmpEqualImpliesEq cmp) (n : ℕ) (p : C) (held : Held) (t : Duration) (owed : ℕ) (question : Option Question) (whether : Bool)
+      (links2 : List (C × Held)) (actions2 : List (Action C)) →
+      latest ≡ as_nanos t → link_of cmp links p ≡ Some held → held.number ≡ n →
+      is_to_ask (as_nanos pace.tick) (as_nanos t) held ≡ true → owed ≡ owed_with question pace.owed held.owed →
+      IfSome question (λ q. IsNextQuestion cmp wire pace.refresh held.asked q node) → is_some question ≡ whether →
+      ((q : C) → link_of cmp links2 q ≡ (if is_at (cmp p) q then option_map (asking owed (asked_after t question held.asked)) (link_of cmp links q) else link_of cmp links q)) →
+      length links2 ≡ length links → actions2 ≡ actions ++ asking_on n question →
+      to_ask (as_nanos pace.tick) (as_nanos t) links2 + 1 ≡ to_ask (as_nanos pace.tick) (as_nanos t) links →
+      AsksOne cmp wire t whether v (seen node pace greeting cooldown latest next arrivals answers links2 actions2)
+  asks_one exact n p held t owed question whether links2 actions2 now linked number due owes next_is asked_is tied same said fewer = record {
+    number = n;
+    peer = p;
+    owed = owed;
+    question = question;
+    asked_is = asked_is;
+    does = asks exact n p held t owed question links2 actions2 now linked number due owes next_is tied same said;
+    latest = refl;
+    pace = refl;
+    late = λ none. record {
+      streams = none.streams;
+      links = still_in_time (as_nanos t) owed p (asked_after t question held.asked) links2 tied none.links;
+    };
+    fewer = fewer;
+  }
+
 module _ {C S : Type 0} (cmp : C → C → Ordering) (wire : Wire C S) (t : Duration) where
   -- none was closed
   pub closes_none : (v : DriverView C S) → ClosesLate cmp wire t v v
@@ -238,15 +340,35 @@ module _ {C S : Type 0} (cmp : C → C → Ordering) (wire : Wire C S) (t : Dura
     latest = one.latest ∙ before.latest;
   }
 
-  -- time passed, and then they were closed
-  pub times_out : (now : ℕ) (v v2 v3 : DriverView C S) → as_nanos t ≡ max v.latest now → Does cmp wire (Happening.Passed t) v v2 →
-      ClosesLate cmp wire t v2 v3 → TimesOut cmp wire now v v3
-  times_out now v v2 v3 is passed closes = record {
+  -- nobody was asked
+  pub asks_none : (v : DriverView C S) → AsksAll cmp wire t (Ok tt) v v
+  asks_none v = record { happenings = []; are_asked = tt; all = refl; does = λ given pace h at. at; latest = refl }
+
+  -- one more was asked, if memory was there
+  pub asks_more : (v v2 v3 : DriverView C S) (before after : Result (Unit {0}) AllocError) (asked : Bool) → AsksAll cmp wire t before v v2 →
+      AsksOne cmp wire t asked v2 v3 → (asked && is_ok before) ≡ is_ok after → AsksAll cmp wire t after v v3
+  asks_more v v2 v3 before after asked all one is = record {
+    happenings = Happening.Asked one.number one.peer t one.owed one.question ∷ all.happenings;
+    are_asked = (refl, all.are_asked);
+    all = ap (λ b. b && list_all was_asked all.happenings) one.asked_is ∙ ap (λ b. asked && b) all.all ∙ is;
+    does = λ given pace h at. one.does.goes given pace (all.happenings ++ h) (all.does given pace h at);
+    latest = one.latest ∙ all.latest;
+  }
+
+  -- time passed, then they were closed, and then some were asked
+  pub times_out : (now : ℕ) (result : Result (Unit {0}) AllocError) (v v2 v3 v4 : DriverView C S) → as_nanos t ≡ max v.latest now →
+      Does cmp wire (Happening.Passed t) v v2 → ClosesLate cmp wire t v2 v3 → AsksAll cmp wire t result v3 v4 → TimesOut cmp wire now result v v4
+  times_out now result v v2 v3 v4 is passed closes asks = record {
     time = t;
     time_is = is;
     late = closes.happenings;
     are_late = closes.are_late;
-    does = λ given pace h at. subst (λ k. DriverStandsAt (base_of cmp wire given pace) k v3)
-        (sym (append_assoc closes.happenings (Happening.Passed t ∷ []) h))
-        (closes.does given pace (Happening.Passed t ∷ h) (passed.goes given pace h at));
+    asked = asks.happenings;
+    are_asked = asks.are_asked;
+    all = asks.all;
+    does = λ given pace h at. subst (λ k. DriverStandsAt (base_of cmp wire given pace) k v4)
+        (ap (λ k. asks.happenings ++ k) (sym (append_assoc closes.happenings (Happening.Passed t ∷ []) h))
+        ∙ sym (append_assoc asks.happenings (closes.happenings ++ Happening.Passed t ∷ []) h))
+        (asks.does given pace (closes.happenings ++ Happening.Passed t ∷ h)
+        (closes.does given pace (Happening.Passed t ∷ h) (passed.goes given pace h at)));
   }

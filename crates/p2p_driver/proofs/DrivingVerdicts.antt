@@ -1,5 +1,5 @@
 -- How verdicts on a frame that waits make a driver stand, by its parts.
-use Rattle.std.proofs.Common.{◌≡◌, Bool, true, false, ℕ, ◌≤◌, List, [], ◌∷◌, ◌++◌, Option, Some, None, refl, sym, ◌∙◌, ap, subst}
+use Rattle.std.proofs.Common.{◌≡◌, Bool, true, false, ℕ, ◌≤◌, List, [], ◌∷◌, Option, Some, None, refl, sym, ◌∙◌, ap, subst}
 use Rattle.std.specs.Prelude.{IfSome, length, if◌then◌else◌, option_map, Result, Ok, Err}
 use Rattle.p2p_discovery.specs.declared.codec.error.CodecError.{CodecError}
 use Rattle.std.specs.BTreeMap.{is_at}
@@ -18,13 +18,13 @@ use Rattle.p2p_discovery.specs.Judgement.{Judge, judge_of}
 use Rattle.p2p_tracker.specs.Calls.Call.{Connect, Update}
 use Rattle.p2p_directory.specs.Nodes.{NodeView, NodeStandsAt, AtEach}
 use Rattle.p2p_directory.specs.Received.{Wire}
-use Rattle.p2p_driver.specs.Admissions.{AnswersVerdicts, IsReturned}
+use Rattle.p2p_driver.specs.Admissions.{AnswersVerdicts}
 use Rattle.p2p_driver.specs.Answers.{AnswersView}
 use Rattle.p2p_driver.specs.Drivers.{DriverView, DriverStands, Does, seen, base_of}
 use Rattle.p2p_driver.specs.Frames.{Outcome, Spells, IsWaiting, refusal_of, is_early, owed_after}
 use Rattle.p2p_driver.specs.Frames.Cause.{OfVerdicts}
 use Rattle.p2p_driver.specs.Happenings.{Happening, calls_of}
-use Rattle.p2p_driver.specs.Hearing.{Follows, IsJudged, IsFirstQuestion}
+use Rattle.p2p_driver.specs.Hearing.{Follows, IsJudged}
 use Rattle.p2p_driver.specs.Links.{link_of, hearing}
 use Rattle.p2p_driver.specs.Steps.{Makes, MakesFor, MayConnect, IsDone, IsBlocked}
 use Rattle.p2p_driver.specs.declared.actions.Action.{Action}
@@ -36,6 +36,8 @@ use Rattle.p2p_driver.specs.declared.links.Phase.{Phase}
 use Rattle.p2p_driver.specs.declared.links.Phase.TheVariants as phase
 use Rattle.p2p_driver.specs.declared.links.Waiting.{Waiting}
 use Rattle.p2p_driver.specs.declared.pace.Pace.{Pace}
+use Rattle.p2p_driver.specs.Questions.{IsNextQuestion}
+use Rattle.p2p_driver.specs.declared.questions.Question.{Question}
 use Rattle.p2p_driver.proofs.Driving.{slotted}
 use Rattle.p2p_driver.proofs.DrivingFrames.{hears, judged_outs, blocked_done, said_none, unchanged, blocks_from, makes_from}
 use Rattle.p2p_driver.proofs.Reserved.{reserved_anywhere}
@@ -136,7 +138,7 @@ module _ {C S : Type 0} (cmp : C → C → Ordering) (wire : Wire C S) (node : N
   -- such an outcome comes of it
   does : (owed : ℕ) (outcome : Outcome C S) (node2 : NodeView C S) (links2 : List (C × Held)) (actions2 : List (Action C)) →
       IsJudged cmp wire w verdicts outcome node → owed ≡ owed_after held.phase outcome pace.owed held.owed →
-      AtEach cmp node (λ m calls. IsDone wire m calls p t outcome) → MakesFor cmp p t outcome node node2 →
+      AtEach cmp node (λ m calls. IsDone wire m pace.refresh held.asked calls p t outcome) → MakesFor cmp p t outcome node node2 →
       Follows cmp n p t owed outcome links links2 actions actions2 →
       Does cmp wire (Happening.Heard n p t owed (OfVerdicts verdicts) outcome) stood (left node2 links2 actions2)
   does owed outcome node2 links2 actions2 comes owes done made follows =
@@ -146,9 +148,9 @@ module _ {C S : Type 0} (cmp : C → C → Ordering) (wire : Wire C S) (node : N
       owes done made follows
 
   -- the peer has greeted
-  pub greets_by : (info : Info C S) (question : Option (List ℕ)) (node1 node2 : NodeView C S) (links2 : List (C × Held)) (actions2 : List (Action C)) →
+  pub greets_by : (info : Info C S) (question : Option Question) (node1 node2 : NodeView C S) (links2 : List (C × Held)) (actions2 : List (Action C)) →
       IsJudged cmp wire w verdicts (Outcome.Greets info question) node → Makes cmp (Update (info ∷ []) ∷ []) node node1 →
-      Makes cmp (Connect p false ∷ []) node1 node2 → IfSome question (λ frame. IsFirstQuestion cmp wire frame node2) →
+      Makes cmp (Connect p false ∷ []) node1 node2 → IfSome question (λ question. IsNextQuestion cmp wire pace.refresh held.asked question node2) →
       Follows cmp n p t (owed_after phase.Greeting (Outcome.Greets info question) pace.owed held.owed) (Outcome.Greets info question) links links2 actions actions2 →
       Does cmp wire (Happening.Heard n p t (owed_after phase.Greeting (Outcome.Greets info question) pace.owed held.owed) (OfVerdicts verdicts)
       (Outcome.Greets info question)) stood (left node2 links2 actions2)
@@ -161,10 +163,10 @@ module _ {C S : Type 0} (cmp : C → C → Ordering) (wire : Wire C S) (node : N
       made : MakesFor cmp p t (Outcome.Greets info question) node node2
       made given calls at = connected given (Update (info ∷ []) ∷ calls) (updated given calls at)
 
-      asks : (q : Option (List ℕ)) → IfSome q (λ frame. IsFirstQuestion cmp wire frame node2) →
-          AtEach cmp node (λ m calls. IsDone wire m calls p t (Outcome.Greets info q))
+      asks : (q : Option Question) → IfSome q (λ question. IsNextQuestion cmp wire pace.refresh held.asked question node2) →
+          AtEach cmp node (λ m calls. IsDone wire m pace.refresh held.asked calls p t (Outcome.Greets info q))
       asks None is given calls at = tt
-      asks (Some frame) is given calls at = is given (Connect p false ∷ Update (info ∷ []) ∷ calls)
+      asks (Some question) is given calls at = is given (Connect p false ∷ Update (info ∷ []) ∷ calls)
           (connected given (Update (info ∷ []) ∷ calls) (updated given calls at))
 
   -- infos are applied

@@ -15,10 +15,10 @@ use Rattle.std.proofs.lemmas.Map.Entries.{place_from_lookup, lookup_from_place}
 use Rattle.std.proofs.lemmas.Map.Keys.{IsDistinct-from_sorted}
 use Rattle.p2p_driver.specs.declared.links.Held.{Held}
 use Rattle.p2p_driver.specs.Arrivals.{lesser_of}
-use Rattle.p2p_driver.specs.Links.{link_of, is_timed, due, IsLeastDue, sooner_of, least_due}
+use Rattle.p2p_driver.specs.Links.{link_of, is_timed, IsLeastDue, sooner_of, least_due}
 
 -- where the first is found
-found_at : {A : Type 0} (p : A → Bool) (xs : List A) (x : A) → find p xs ≡ Some x →
+pub found_at : {A : Type 0} (p : A → Bool) (xs : List A) (x : A) → find p xs ≡ Some x →
     (i : ℕ) × (slice_get xs i ≡ Some x) × (p x ≡ true)
 found_at p [] x is = absurd cc
 found_at {A} p (y ∷ ys) x is = go (p y) refl is (found_at p ys x)
@@ -64,19 +64,19 @@ lesser_one (Some n) m = elim (cases_lt n m) [
   | inr more ↦ inl (omega (arith, more))
 ]
 
-module _ {C : Type 0} (greeting silence : ℕ) where
-  -- one of the entries has to be heard by the moment
+module _ {C : Type 0} (moment : Held → ℕ) where
+  -- one of the entries has the moment
   abbrev Has : List (C × Held) → ℕ → Type 0
   Has es least = (i : ℕ) × (e : C × Held) × (slice_get es i ≡ Some e)
-      × (is_timed e.1.phase ≡ true) × (due greeting silence e.1 ≡ least)
+      × (is_timed e.1.phase ≡ true) × (moment e.1 ≡ least)
 
-  -- the least of a moment and those by which the entries have to be heard
+  -- the least of a moment and those of the entries
   abbrev IsLeast : List (C × Held) → Option ℕ → Option ℕ → Type 0
   IsLeast es next None = (next ≡ None)
       × ((i : ℕ) (e : C × Held) → slice_get es i ≡ Some e → is_timed e.1.phase ≡ false)
   IsLeast es next (Some least) =
       ((i : ℕ) (e : C × Held) → slice_get es i ≡ Some e → is_timed e.1.phase ≡ true →
-      least ≤ due greeting silence e.1)
+      least ≤ moment e.1)
       × ((m : ℕ) → next ≡ Some m → least ≤ m)
       × (Has es least ⊎ (next ≡ Some least))
 
@@ -85,7 +85,7 @@ module _ {C : Type 0} (greeting silence : ℕ) where
 
   step : (x : C × Held) (es : List (C × Held)) (next r : Option ℕ) (b : Bool) →
       is_timed x.1.phase ≡ b →
-      IsLeast es (if b then Some (lesser_of next (due greeting silence x.1)) else next) r →
+      IsLeast es (if b then Some (lesser_of next (moment x.1)) else next) r →
       IsLeast (x ∷ es) next r
   step x es next None true is least = absurd (let e = least.0 in cc)
   step x es next None false is least = (least.0, each)
@@ -96,19 +96,19 @@ module _ {C : Type 0} (greeting silence : ℕ) where
   step x es next (Some r) true is least = (each, low, one)
     where
       each : (i : ℕ) (e : C × Held) → slice_get (x ∷ es) i ≡ Some e → is_timed e.1.phase ≡ true →
-          r ≤ due greeting silence e.1
+          r ≤ moment e.1
       each zero e at timed =
-          let f = ap (λ o. due greeting silence (unwrap_or o x).1) at in
-          omega (arith, f, least.1 (lesser_of next (due greeting silence x.1)) refl, lesser_within next (due greeting silence x.1))
+          let f = ap (λ o. moment (unwrap_or o x).1) at in
+          omega (arith, f, least.1 (lesser_of next (moment x.1)) refl, lesser_within next (moment x.1))
       each (suc i) e at timed = least.0 i e at timed
 
       low : (m : ℕ) → next ≡ Some m → r ≤ m
-      low m e = omega (arith, least.1 (lesser_of next (due greeting silence x.1)) refl, lesser_below next (due greeting silence x.1) m e)
+      low m e = omega (arith, least.1 (lesser_of next (moment x.1)) refl, lesser_below next (moment x.1) m e)
 
       one : Has (x ∷ es) r ⊎ (next ≡ Some r)
       one = elim least.2 [
         | inl has ↦ inl (later x es r has)
-        | inr e ↦ elim (lesser_one next (due greeting silence x.1)) [
+        | inr e ↦ elim (lesser_one next (moment x.1)) [
           | inl here ↦ inl (zero, x, refl, is, sym here ∙ ap (λ o. unwrap_or o 0) e)
           | inr there ↦ inr (there ∙ e)
         ]
@@ -116,7 +116,7 @@ module _ {C : Type 0} (greeting silence : ℕ) where
   step x es next (Some r) false is least = (each, least.1, one)
     where
       each : (i : ℕ) (e : C × Held) → slice_get (x ∷ es) i ≡ Some e → is_timed e.1.phase ≡ true →
-          r ≤ due greeting silence e.1
+          r ≤ moment e.1
       each zero e at timed = absurd (let f = sym (ap (λ o. is_timed (unwrap_or o x).1.phase) at) ∙ is in
           let g = sym f ∙ timed in cc)
       each (suc i) e at timed = least.0 i e at timed
@@ -125,15 +125,15 @@ module _ {C : Type 0} (greeting silence : ℕ) where
       one = elim least.2 [ inl has ↦ inl (later x es r has) | inr e ↦ inr e ]
 
   least_of : (es : List (C × Held)) (next : Option ℕ) →
-      IsLeast es next (least_due greeting silence next (values_of es))
+      IsLeast es next (least_due moment next (values_of es))
   least_of [] None = (refl, λ i e at. absurd cc)
   least_of [] (Some m) = (
     λ i e at timed. absurd cc,
     λ n is. omega (arith, ap (λ o. unwrap_or o 0) is),
     inr refl,
   )
-  least_of (x ∷ es) next = step x es next (least_due greeting silence (sooner_of greeting silence next x.1) (values_of es))
-      (is_timed x.1.phase) refl (least_of es (sooner_of greeting silence next x.1))
+  least_of (x ∷ es) next = step x es next (least_due moment (sooner_of moment next x.1) (values_of es))
+      (is_timed x.1.phase) refl (least_of es (sooner_of moment next x.1))
 
 -- IN ORDER
 module _ {C : Type 0} {cmp : C → C → Ordering} (total : IsTotalOrder cmp) (links : List (C × Held))
@@ -175,12 +175,12 @@ module _ {C : Type 0} {cmp : C → C → Ordering} (total : IsTotalOrder cmp) (l
       go (Some e) f None is = absurd cc
       go None f None is = by f
 
-  pub least_found : (greeting silence : ℕ) (r : Option ℕ) → r ≡ least_due greeting silence None (values_of links) →
-      IsLeastDue cmp greeting silence links r
-  least_found greeting silence r is =
-      go r (subst (IsLeast greeting silence links None) (sym is) (least_of greeting silence links None))
+  pub least_found : (moment : Held → ℕ) (r : Option ℕ) → r ≡ least_due moment None (values_of links) →
+      IsLeastDue cmp moment links r
+  least_found moment r is =
+      go r (subst (IsLeast moment links None) (sym is) (least_of moment links None))
     where
-      go : (r : Option ℕ) → IsLeast greeting silence links None r → IsLeastDue cmp greeting silence links r
+      go : (r : Option ℕ) → IsLeast moment links None r → IsLeastDue cmp moment links r
       go None least = λ q h has. let at = place_from_lookup (is_at (cmp q)) links h has in
           least.1 at.0 (at.1, h) at.2
       go (Some r) least = (

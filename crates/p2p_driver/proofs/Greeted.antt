@@ -19,6 +19,7 @@ use Rattle.p2p_driver.specs.declared.links.Held.{Held}
 use Rattle.p2p_driver.specs.declared.links.Phase.{Phase}
 use Rattle.p2p_driver.specs.declared.links.Phase.TheVariants as phase
 use Rattle.p2p_driver.specs.declared.links.Waiting.{Waiting}
+use Rattle.p2p_driver.specs.declared.questions.Question.{Question}
 use Rattle.p2p_driver.specs.Frames.{Cause, Outcome, IsWaiting, IsOutcome}
 use Rattle.p2p_driver.specs.Happenings.{Happening, calls_of, link_since, opened_by, ends_by, closes_by, greets_by, kept_of, is_greeted}
 use Rattle.p2p_driver.specs.Drivers.{Base, AreRight, IsRight, IsHeard, link, standing}
@@ -64,7 +65,7 @@ module _ {C S : Type 0} (b : Base C S) where
 
   -- who greets does so with an info of its own key
   own : (cs : List (Call C S)) (p : C) (ph : Phase) (owed : ℕ) (waiting : Option Waiting) (c : Cause)
-      (info : Info C S) (question : Option (List ℕ)) → Knows cs ph p waiting →
+      (info : Info C S) (question : Option Question) → Knows cs ph p waiting →
       IsOutcome d.cmp b.wire (standing b cs) ph owed waiting p c (Outcome.Greets info question) →
       same d p info.public_key ≡ true
   own cs p phase.Greeting owed None (Cause.OfFrame frame wall) info question knows comes = absurd comes
@@ -178,6 +179,7 @@ module _ {C S : Type 0} (b : Base C S) where
     greets_own (Happening.LinkLate n q t) h is right p greets = absurd cc
     greets_own (Happening.Heard n q t owed c outcome) h is right p greets =
         heard_greets h right n q t owed c outcome is p greets
+    greets_own (Happening.Asked n q t owed question) h is right p greets = absurd cc
     greets_own (Happening.Given infos t) h is right p greets = absurd cc
     greets_own (Happening.Barred q t taken) h is right p greets = absurd cc
     greets_own (Happening.Parted q t) h is right p greets = absurd cc

@@ -1,8 +1,8 @@
 -- What a node makes of verdicts on a frame that waits, and of a frame that it is handed.
-use Rattle.std.proofs.Common.{◌≡◌, ◌==◌, ℕ, zero, suc, ◌+◌, ◌-◌, ◌≤◌, ◌<◌, Bool, true, false, not, List, [], ◌∷◌, ◌++◌, Option, Some, None, inl, inr, refl, sym, ◌∙◌, ap, subst}
+use Rattle.std.proofs.Common.{◌≡◌, ◌==◌, ℕ, zero, suc, ◌-◌, ◌≤◌, Bool, true, false, not, List, [], ◌∷◌, ◌++◌, Option, Some, None, inl, inr, refl, sym, ◌∙◌, ap, subst}
 use Rattle.std.proofs.Common.{arith}
 use Rattle.std.proofs.lemmas.Bool.Decides.{nat_tests}
-use Rattle.std.specs.Prelude.{if◌then◌else◌, length, take, replicate, nat_lt, is_some, Ok, Err}
+use Rattle.std.specs.Prelude.{if◌then◌else◌, length, take, replicate, nat_lt, is_some, Ok}
 use Rattle.std.specs.Duration.{as_nanos}
 use Rattle.std.specs.declared.cmp.Ordering.{Ordering}
 use Rattle.std.specs.declared.time.Duration.{Duration}
@@ -13,14 +13,13 @@ use Rattle.p2p_discovery.specs.declared.discovery.Error.TheVariants as error
 use Rattle.p2p_discovery.specs.declared.discovery.Info.{Info}
 use Rattle.p2p_discovery.specs.declared.discovery.Payload.{Payload}
 use Rattle.p2p_discovery.specs.declared.discovery.Payload.TheVariants as payload
-use Rattle.p2p_discovery.specs.declared.discovery.PayloadConfig.{PayloadConfig}
 use Rattle.p2p_discovery.specs.Judgement.{Judge, judge_of, refusal_if, first_refusal_by, list_refusal_by, first_of, is_too_late, to_verify, judged_before, judged}
 use Rattle.p2p_tracker.specs.Calls.{Call}
 use Rattle.p2p_tracker.specs.Calls.Call.{Update}
 use Rattle.p2p_directory.specs.declared.node.received.Received.{Received}
 use Rattle.p2p_directory.specs.declared.node.received.Received.TheVariants as received
 use Rattle.p2p_directory.specs.Nodes.{NodeView, Made, NodeStandsAt, Answers, IsReceived, made_of, standing_of, standing_in, given_verdicts, calls_with}
-use Rattle.p2p_directory.specs.Received.{Wire, Standing, FrameOutcome, IsFrameAnswer, received_by, read_by, greeted, replied, taken, first_verdict, verdicts_of}
+use Rattle.p2p_directory.specs.Received.{Wire, Standing, FrameOutcome, received_by, read_by, greeted, replied, taken, first_verdict, verdicts_of}
 use Rattle.p2p_directory.specs.declared.node.setup.Setup.{Setup}
 use Rattle.p2p_directory.specs.Run.{world_after}
 use Rattle.p2p_driver.specs.Frames.{Outcome, Spells, IsWaiting, ComesOf, refusal_of}

@@ -37,4 +37,12 @@ mod Greeted
 mod Beginnings
 mod Causes
 mod Asked
+mod Signatures
+mod Little
+mod Turns
+mod Spared
+mod Later
+mod Early
 mod Shown
+mod Spelled
+mod Fitting

@@ -1,18 +1,23 @@
 -- The links of peers after one more happening, and what was said.
-use Rattle.std.proofs.Common.{◌≡◌, ℕ, Bool, true, false, not, ◌||◌, ◌&&◌, List, [], ◌∷◌, ◌++◌, Option, Some, None, refl, sym, ◌∙◌, ap}
-use Rattle.std.specs.Prelude.{if◌then◌else◌, option_map}
-use Rattle.std.specs.List.{list_any}
+use Rattle.std.proofs.Common.{◌≡◌, ℕ, ◌+◌, Bool, true, false, not, ◌||◌, ◌&&◌, cond, List, [], ◌∷◌, ◌++◌, Option, Some, None, refl, sym, ◌∙◌, ap, arith}
+use Rattle.std.specs.Prelude.{if◌then◌else◌, option_map, unwrap_or}
+use Rattle.std.specs.List.{list_any, count_by}
+use Rattle.std.proofs.lemmas.List.Sums.{sum_by-cons}
 use Rattle.std.specs.declared.time.Duration.{Duration}
 use Rattle.std.proofs.lemmas.List.{append-nil, append_assoc}
 use Rattle.p2p_tracker.specs.Calls.{Settings}
 use Rattle.p2p_tracker.specs.History.{same, last_with, found_with}
+use Rattle.p2p_driver.specs.declared.links.Asked.{Asked}
 use Rattle.p2p_driver.specs.declared.links.Held.{Held}
 use Rattle.p2p_driver.specs.declared.links.Phase.{Phase}
 use Rattle.p2p_driver.specs.declared.links.Phase.TheVariants as phase
 use Rattle.p2p_driver.specs.declared.links.Waiting.{Waiting}
+use Rattle.p2p_driver.specs.declared.questions.Question.{Question}
+use Rattle.p2p_discovery.specs.Judgement.{first_of}
+use Rattle.p2p_driver.specs.Questions.{asked_after, counted}
 use Rattle.p2p_driver.specs.Frames.{Cause, Outcome, waiting_by}
-use Rattle.p2p_driver.specs.Happenings.{Happening, link_at, link_since, opened_by, ends_by, closes_by, greets_by, heard_by, phase_of, kept_of, last_heard, is_closing, is_greeted, heard_as}
-use Rattle.p2p_driver.specs.Links.{link_with, greeted, waiting_in, hearing, opened, closed}
+use Rattle.p2p_driver.specs.Happenings.{Happening, link_at, link_since, opened_by, ends_by, closes_by, greets_by, heard_by, phase_of, owed_by, tried_by, index_by, newest_by, index_tried, newest_tried, tried_with, kept_of, last_heard, last_tried, asked_in, is_closing, is_greeted, heard_as}
+use Rattle.p2p_driver.specs.Links.{link_with, greeted, waiting_in, hearing, opened, asking, closed}
 
 -- a phase once the link was closed, or greeted on
 abbrev pub phase_after : Bool → Bool → Phase → Phase
@@ -39,37 +44,48 @@ of_open true g is = absurd cc
 of_open false true is = refl
 of_open false false is = absurd cc
 
--- what one happening does to a link: it is closed, its peer greets, or is heard
+-- what one happening does to a link: it is closed, its peer greets, or is heard, questions are owed, one is due
 pub record Touch : Type 0 where
   pub closes : Bool
   pub greets : Bool
-  pub heard : Option (Duration × ℕ × Option Waiting)
+  pub heard : Option (Duration × Option Waiting)
+  pub owed : Option ℕ
+  pub tried : Option (Duration × Option Question)
 
 -- nothing
 abbrev pub untouched : Touch
-untouched = record { closes = false; greets = false; heard = None }
+untouched = record { closes = false; greets = false; heard = None; owed = None; tried = None }
 
 -- it is closed, or not
 abbrev pub closing_if : Bool → Touch
-closing_if b = record { closes = b; greets = false; heard = None }
+closing_if b = record { closes = b; greets = false; heard = None; owed = None; tried = None }
 
--- when its peer was heard last, how much is owed, and what waits
-abbrev pub last_after : Option (Duration × ℕ × Option Waiting) → Duration × ℕ × Option Waiting → Duration × ℕ × Option Waiting
-last_after None last = last
-last_after (Some heard) last = heard
+-- when its peer was heard last, how much is owed, what waits, and what is kept of its questions
+abbrev pub heard_after : Option (Duration × Option Waiting) → Duration → Duration
+heard_after None at = at
+heard_after (Some heard) at = heard.0
 
-abbrev pub waiting_after : Option (Duration × ℕ × Option Waiting) → Bool → Phase → Option Waiting → Option Waiting
+abbrev pub owed_now : Option ℕ → ℕ → ℕ
+owed_now None owed = owed
+owed_now (Some now) owed = now
+
+abbrev pub waiting_after : Option (Duration × Option Waiting) → Bool → Phase → Option Waiting → Option Waiting
 waiting_after None closes ph waiting = if closes then None else waiting
-waiting_after (Some heard) closes ph waiting = waiting_in ph heard.2
+waiting_after (Some heard) closes ph waiting = waiting_in ph heard.1
+
+abbrev pub tried_after : Option (Duration × Option Question) → Asked → Asked
+tried_after None asked = asked
+tried_after (Some tried) asked = asked_after tried.0 tried.1 asked
 
 abbrev pub touched : Touch → Held → Held
 touched touch held = record {
   number = held.number;
   phase = phase_after touch.closes touch.greets held.phase;
   since = held.since;
-  heard = (last_after touch.heard (held.heard, held.owed, held.waiting)).0;
-  owed = (last_after touch.heard (held.heard, held.owed, held.waiting)).1;
+  heard = heard_after touch.heard held.heard;
+  owed = owed_now touch.owed held.owed;
   waiting = waiting_after touch.heard touch.closes (phase_after touch.closes touch.greets held.phase) held.waiting;
+  asked = tried_after touch.tried held.asked;
 }
 
 -- a link once it ended, was closed, greeted on, or heard
@@ -94,87 +110,193 @@ closed_link true (Some held) = refl
 closed_link false o = unchanged_link o
 
 -- .. or greeted on
-pub opened_link : (b : Bool) (t : Duration) (owed : ℕ) (o : Option Held) →
-    link_after false (record { closes = false; greets = b; heard = if b then Some (t, owed, None) else None }) o
-    ≡ (if b then option_map (opened t owed) o else o)
-opened_link true t owed None = refl
-opened_link true t owed (Some held) = ap (λ w. Some (record held { phase = greeted held.phase; heard = t; owed = owed; waiting = w }))
-    (none (greeted held.phase))
+pub opened_link : (b : Bool) (t : Duration) (owed : ℕ) (question : Option Question) (o : Option Held) →
+    link_after false (record {
+      closes = false;
+      greets = b;
+      heard = if b then Some (t, None) else None;
+      owed = if b then Some owed else None;
+      tried = if b then Some (t, question) else None;
+    }) o ≡ (if b then option_map (λ h. opened t owed (asked_after t question h.asked) h) o else o)
+opened_link true t owed question None = refl
+opened_link true t owed question (Some held) = ap (λ w. Some (record held {
+  phase = greeted held.phase;
+  heard = t;
+  owed = owed;
+  waiting = w;
+  asked = asked_after t question held.asked;
+})) (none (greeted held.phase))
   where
     none : (ph : Phase) → waiting_in ph None ≡ None
     none phase.Greeting = refl
     none phase.Open = refl
     none phase.Closing = refl
-opened_link false t owed o = unchanged_link o
+opened_link false t owed question o = unchanged_link o
 
 -- .. or heard
 pub heard_link : (b : Bool) (t : Duration) (owed : ℕ) (w : Option Waiting) (o : Option Held) →
-    link_after false (record { closes = false; greets = false; heard = if b then Some (t, owed, w) else None }) o
-    ≡ (if b then option_map (hearing t owed w) o else o)
+    link_after false (record {
+      closes = false;
+      greets = false;
+      heard = if b then Some (t, w) else None;
+      owed = if b then Some owed else None;
+      tried = if b then None else None;
+    }) o ≡ (if b then option_map (hearing t owed w) o else o)
 heard_link true t owed w None = refl
 heard_link true t owed w (Some held) = refl
 heard_link false t owed w o = unchanged_link o
+
+-- .. or asked
+pub asked_link : (b : Bool) (t : Duration) (owed : ℕ) (question : Option Question) (o : Option Held) →
+    link_after false (record {
+      closes = false;
+      greets = false;
+      heard = None;
+      owed = if b then Some owed else None;
+      tried = if b then Some (t, question) else None;
+    }) o ≡ (if b then option_map (λ h. asking owed (asked_after t question h.asked) h) o else o)
+asked_link true t owed question None = refl
+asked_link true t owed question (Some held) = refl
+asked_link false t owed question o = unchanged_link o
+
+-- .. or closed by what came
+cut_link : (b : Bool) (o : Option Held) →
+    link_after false (record { closes = b; greets = false; heard = None; owed = None; tried = if b then None else None }) o
+    ≡ (if b then option_map closed o else o)
+cut_link true None = refl
+cut_link true (Some held) = refl
+cut_link false o = unchanged_link o
 
 -- by what came of it
 pub outcome_link : {C S : Type 0} (b : Bool) (t : Duration) (owed : ℕ) (outcome : Outcome C S) (o : Option Held) →
     link_after false (record {
       closes = is_closing outcome && b;
       greets = is_greeted outcome && b;
-      heard = if not (is_closing outcome) && b then Some (t, owed, waiting_by outcome) else None;
+      heard = if not (is_closing outcome) && b then Some (t, waiting_by outcome) else None;
+      owed = if not (is_closing outcome) && b then Some owed else None;
+      tried = if b then tried_with t outcome else None;
     }) o ≡ (if b then option_map (heard_as t owed outcome) o else o)
 outcome_link b t owed (Outcome.Waits waiting) o = heard_link b t owed (Some waiting) o
-outcome_link b t owed (Outcome.Greets info question) o = opened_link b t owed o
+outcome_link b t owed (Outcome.Greets info question) o = opened_link b t owed question o
 outcome_link b t owed (Outcome.Takes infos) o = heard_link b t owed None o
 outcome_link b t owed (Outcome.Answers reply) o = heard_link b t owed None o
 outcome_link b t owed (Outcome.Delivers message) o = heard_link b t owed None o
 outcome_link b t owed Outcome.Ignores o = heard_link b t owed None o
-outcome_link b t owed (Outcome.Breaks breach blocked) o = closed_link b o
-outcome_link b t owed Outcome.IsEarly o = closed_link b o
+outcome_link b t owed (Outcome.Breaks breach blocked) o = cut_link b o
+outcome_link b t owed Outcome.IsEarly o = cut_link b o
 
--- what is kept of a link, by how far it is and how its peer was heard last
-abbrev kept_with : ℕ → Duration → Phase → Duration × ℕ × Option Waiting → Held
-kept_with n t ph last = record {
+-- what is kept of a link, by how far it is, when its peer was heard last, how much is owed, what waits, and its questions
+abbrev kept_with : ℕ → Duration → Phase → Duration × Option Waiting → ℕ → Asked → Held
+kept_with n t ph last owed asked = record {
   number = n;
   phase = ph;
   since = t;
   heard = last.0;
-  owed = last.1;
-  waiting = waiting_in ph last.2;
+  owed = owed;
+  waiting = waiting_in ph last.1;
+  asked = asked;
 }
 
-kept_step : (n : ℕ) (t : Duration) (c g : Bool) (heard : Option (Duration × ℕ × Option Waiting)) (ph : Phase)
-    (last : Duration × ℕ × Option Waiting) →
-    kept_with n t (phase_after c g ph) (last_after heard last)
-    ≡ touched (record { closes = c; greets = g; heard = heard }) (kept_with n t ph last)
-kept_step n t c g (Some heard) ph last = refl
-kept_step n t true g None ph last = refl
-kept_step n t false true None phase.Greeting last = refl
-kept_step n t false true None phase.Open last = refl
-kept_step n t false true None phase.Closing last = refl
-kept_step n t false false None ph last = refl
+abbrev last_after : Option (Duration × Option Waiting) → Duration × Option Waiting → Duration × Option Waiting
+last_after None last = last
+last_after (Some heard) last = heard
+
+kept_step : (n : ℕ) (t : Duration) (c g : Bool) (heard : Option (Duration × Option Waiting)) (o : Option ℕ)
+    (tried : Option (Duration × Option Question)) (ph : Phase) (last : Duration × Option Waiting) (owed : ℕ) (asked : Asked) →
+    kept_with n t (phase_after c g ph) (last_after heard last) (owed_now o owed) (tried_after tried asked)
+    ≡ touched (record { closes = c; greets = g; heard = heard; owed = o; tried = tried }) (kept_with n t ph last owed asked)
+kept_step n t c g (Some heard) o tried ph last owed asked = refl
+kept_step n t true g None o tried ph last owed asked = refl
+kept_step n t false true None o tried phase.Greeting last owed asked = refl
+kept_step n t false true None o tried phase.Open last owed asked = refl
+kept_step n t false true None o tried phase.Closing last owed asked = refl
+kept_step n t false false None o tried ph last owed asked = refl
+
+-- what is kept of questions, by its parts
+abbrev asked_at : Duration → Option ℕ → ℕ → Asked
+asked_at at index rounds = record { at = at; index = index; rounds = rounds }
+
+-- one more round, as far as it is counted
+counted_more : (b : Bool) (k : ℕ) → counted (cond b 1 0 + k) ≡ (if b then counted (counted k + 1) else counted k)
+counted_more true k = omega arith
+counted_more false k = omega arith
 
 module _ {C S : Type 0} (s : Settings C S) where
   -- what a happening does to the link of p
   abbrev pub touch_by : C → Happening C S → Touch
-  touch_by p e = record { closes = closes_by s p e; greets = greets_by s p e; heard = heard_by s p e }
+  touch_by p e = record {
+    closes = closes_by s p e;
+    greets = greets_by s p e;
+    heard = heard_by s p e;
+    owed = owed_by s p e;
+    tried = tried_by s p e;
+  }
 
-  last_step : (t : Duration) (e : Happening C S) (heard : Option (Duration × ℕ × Option Waiting))
-      (found : Option ((Duration × ℕ × Option Waiting) × List (Happening C S))) →
+  last_step : (t : Duration) (e : Happening C S) (heard : Option (Duration × Option Waiting))
+      (found : Option ((Duration × Option Waiting) × List (Happening C S))) →
       last_heard s t (found_with heard e found) ≡ last_after heard (last_heard s t found)
   last_step t e (Some heard) found = refl
   last_step t e None None = refl
   last_step t e None (Some found) = refl
 
+  owed_step : (e : Happening C S) (owed : Option ℕ) (found : Option (ℕ × List (Happening C S))) →
+      unwrap_or (option_map (λ x. x.0) (found_with owed e found)) 0 ≡ owed_now owed (unwrap_or (option_map (λ x. x.0) found) 0)
+  owed_step e (Some owed) found = refl
+  owed_step e None None = refl
+  owed_step e None (Some found) = refl
+
+  at_step : (t : Duration) (e : Happening C S) (found : Option ((Duration × Option Question) × List (Happening C S))) →
+      last_tried s t (found_with None e found) ≡ last_tried s t found
+  at_step t e None = refl
+  at_step t e (Some found) = refl
+
+  index_step : (e : Happening C S) (index : Option ℕ) (found : Option (ℕ × List (Happening C S))) →
+      option_map (λ x. x.0) (found_with index e found) ≡ first_of index (option_map (λ x. x.0) found)
+  index_step e (Some index) found = refl
+  index_step e None None = refl
+  index_step e None (Some found) = refl
+
+  asked_step : (p : C) (t : Duration) (e : Happening C S) (since : List (Happening C S)) →
+      asked_in s p t (e ∷ since) ≡ tried_after (tried_by s p e) (asked_in s p t since)
+  asked_step p t e since = ap (asked_at (last_tried s t (last_with (tried_by s p) (e ∷ since)))
+      (option_map (λ found. found.0) (last_with (index_by s p) (e ∷ since))))
+      (ap counted (sum_by-cons (λ x. cond (newest_by s p x) 1 0) e since)) ∙ go (tried_by s p e)
+    where
+      go : (tried : Option (Duration × Option Question)) →
+          asked_at (last_tried s t (found_with tried e (last_with (tried_by s p) since)))
+          (option_map (λ found. found.0) (found_with (index_tried tried) e (last_with (index_by s p) since)))
+          (counted (cond (newest_tried tried) 1 0 + count_by (newest_by s p) since))
+          ≡ tried_after tried (asked_in s p t since)
+      go None = ap (λ i. asked_at (last_tried s t (found_with None e (last_with (tried_by s p) since))) i (counted (0 + count_by (newest_by s p) since)))
+          (index_step e None (last_with (index_by s p) since))
+          ∙ ap (asked_at (last_tried s t (found_with None e (last_with (tried_by s p) since))) (option_map (λ x. x.0) (last_with (index_by s p) since)))
+          (counted_more false (count_by (newest_by s p) since))
+          ∙ ap (λ a. asked_at a (option_map (λ x. x.0) (last_with (index_by s p) since)) (counted (count_by (newest_by s p) since)))
+          (at_step t e (last_with (tried_by s p) since))
+      go (Some (now, None)) = ap (λ i. asked_at now i (counted (0 + count_by (newest_by s p) since))) (index_step e None (last_with (index_by s p) since))
+          ∙ ap (asked_at now (option_map (λ x. x.0) (last_with (index_by s p) since))) (counted_more false (count_by (newest_by s p) since))
+      go (Some (now, Some q)) = ap (λ i. asked_at now i (counted (cond q.newest 1 0 + count_by (newest_by s p) since)))
+          (index_step e q.index (last_with (index_by s p) since))
+          ∙ ap (asked_at now (first_of q.index (option_map (λ x. x.0) (last_with (index_by s p) since))))
+          (counted_more q.newest (count_by (newest_by s p) since))
+
   kept_later : (p : C) (e : Happening C S) (n : ℕ) (t : Duration) (since : List (Happening C S)) →
       kept_of s p n t (e ∷ since) ≡ touched (touch_by p e) (kept_of s p n t since)
-  kept_later p e n t since = ap (λ ph. kept_with n t ph (last_heard s t (last_with (heard_by s p) (e ∷ since))))
+  kept_later p e n t since =
+      let ph : Phase = phase_of (list_any (closes_by s p) since) (list_any (greets_by s p) since) in
+      let last : Duration × Option Waiting = last_heard s t (last_with (heard_by s p) since) in
+      let owed : ℕ = unwrap_or (option_map (λ x. x.0) (last_with (owed_by s p) since)) 0 in
+      ap (λ x. kept_with n t x (last_heard s t (last_with (heard_by s p) (e ∷ since)))
+      (unwrap_or (option_map (λ x. x.0) (last_with (owed_by s p) (e ∷ since))) 0) (asked_in s p t (e ∷ since)))
       (phase_step (closes_by s p e) (list_any (closes_by s p) since) (greets_by s p e) (list_any (greets_by s p) since))
-      ∙ ap (kept_with n t (phase_after (closes_by s p e) (greets_by s p e)
-      (phase_of (list_any (closes_by s p) since) (list_any (greets_by s p) since))))
+      ∙ ap (λ x. kept_with n t (phase_after (closes_by s p e) (greets_by s p e) ph) x
+      (unwrap_or (option_map (λ x. x.0) (last_with (owed_by s p) (e ∷ since))) 0) (asked_in s p t (e ∷ since)))
       (last_step t e (heard_by s p e) (last_with (heard_by s p) since))
-      ∙ kept_step n t (closes_by s p e) (greets_by s p e) (heard_by s p e)
-      (phase_of (list_any (closes_by s p) since) (list_any (greets_by s p) since))
-      (last_heard s t (last_with (heard_by s p) since))
+      ∙ ap (λ x. kept_with n t (phase_after (closes_by s p e) (greets_by s p e) ph) (last_after (heard_by s p e) last) x (asked_in s p t (e ∷ since)))
+      (owed_step e (owed_by s p e) (last_with (owed_by s p) since))
+      ∙ ap (kept_with n t (phase_after (closes_by s p e) (greets_by s p e) ph) (last_after (heard_by s p e) last) (owed_now (owed_by s p e) owed))
+      (asked_step p t e since)
+      ∙ kept_step n t (closes_by s p e) (greets_by s p e) (heard_by s p e) (owed_by s p e) (tried_by s p e) ph last owed (asked_in s p t since)
 
   later : (p : C) (e : Happening C S) (found : Option ((ℕ × Duration) × List (Happening C S))) →
       link_since s p (found_with None e found) ≡ link_after (ends_by s p e) (touch_by p e) (link_since s p found)
@@ -221,6 +343,13 @@ module _ {C S : Type 0} (s : Settings C S) where
       ≡ (if same s q p then option_map (heard_as t owed outcome) (link_at s p h) else link_at s p h)
   link_hears p q n t owed cause outcome h = link_later p (Happening.Heard n q t owed cause outcome) h refl
       ∙ outcome_link (same s q p) t owed outcome (link_at s p h)
+
+  -- one by which a question was due for q
+  pub link_asks : (p q : C) (n : ℕ) (t : Duration) (owed : ℕ) (question : Option Question) (h : List (Happening C S)) →
+      link_at s p (Happening.Asked n q t owed question ∷ h)
+      ≡ (if same s q p then option_map (λ x. asking owed (asked_after t question x.asked) x) (link_at s p h) else link_at s p h)
+  link_asks p q n t owed question h = link_later p (Happening.Asked n q t owed question) h refl
+      ∙ asked_link (same s q p) t owed question (link_at s p h)
 
 -- WHAT WAS SAID
 

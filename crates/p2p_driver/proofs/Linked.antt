@@ -1,8 +1,10 @@
 -- Links of peers, as they are kept by peer and by number.
-use Rattle.std.proofs.Common.{◌≡◌, ◌≤◌, ◌+◌, ℕ, Bool, true, false, cond, List, [], ◌∷◌}
+use Rattle.std.proofs.Common.{◌≡◌, ◌≤◌, ◌<◌, ◌+◌, ℕ, Bool, true, false, cond, List, [], ◌∷◌}
 use Rattle.std.proofs.Common.{Option, Some, None, refl, sym, ◌∙◌, ap, subst, arith}
 use Rattle.std.proofs.Common.{Less, Equal, Greater, inl, inr}
-use Rattle.std.specs.Prelude.{IfSome, IfNone, option_map, unwrap_or, length, if◌then◌else◌}
+use Rattle.std.specs.Prelude.{IfSome, IfNone, option_map, unwrap_or, length, if◌then◌else◌, max, nat_le, ◌&&◌}
+use Rattle.std.specs.Duration.{as_nanos}
+use Rattle.std.proofs.lemmas.Bool.Decides.{nat_tests}
 use Rattle.std.specs.declared.cmp.Ordering.{Ordering}
 use Rattle.std.specs.declared.time.Duration.{Duration}
 use Rattle.std.specs.BTreeMap.{is_at, insert_entry}
@@ -17,11 +19,12 @@ use Rattle.std.proofs.lemmas.Bool.{cases_lt}
 use Rattle.std.proofs.lemmas.Cmp.{nat_cmp_total}
 use Rattle.std.proofs.lemmas.Map.{lookup-set_value, length-set_value}
 use Rattle.std.proofs.lemmas.Map.Entries.{sum_by-remove_entry, sum_by-set_value, sum_by-insert_entry}
+use Rattle.p2p_driver.specs.declared.links.Asked.{Asked}
 use Rattle.p2p_driver.specs.declared.links.Held.{Held}
 use Rattle.p2p_driver.specs.declared.links.Phase.{Phase}
 use Rattle.p2p_driver.specs.declared.links.Phase.TheVariants as phase
 use Rattle.p2p_driver.specs.declared.links.Waiting.{Waiting}
-use Rattle.p2p_driver.specs.Links.{link_of, need_of, need_at, needs, greeted, is_greeting, one_if_greeting, opened, hearing, closed}
+use Rattle.p2p_driver.specs.Links.{link_of, need_of, need_at, needs, greeted, is_greeting, one_if_greeting, opened, hearing, asking, closed, is_open, is_to_ask, to_ask}
 use Rattle.p2p_driver.specs.Links.{AreInverse, AreNumbered, AreAlike}
 
 -- a number is equal to itself
@@ -109,14 +112,14 @@ module _ {C : Type 0} {cmp : C → C → Ordering} (total : IsTotalOrder cmp) wh
   once_greeted phase.Open = refl
   once_greeted phase.Closing = refl
 
-  pub needs_opened : (t : Duration) (owed : ℕ) (links new : List (C × Held)) (peer : C) (held : Held) →
+  pub needs_opened : (t : Duration) (owed : ℕ) (asked : Asked) (links new : List (C × Held)) (peer : C) (held : Held) →
       link_of cmp links peer ≡ Some held →
-      new ≡ set_value (is_at (cmp peer)) links (opened t owed held) →
+      new ≡ set_value (is_at (cmp peer)) links (opened t owed asked held) →
       needs new ≡ needs links + one_if_greeting (link_of cmp links peer)
-  needs_opened t owed links new peer held has is =
+  needs_opened t owed asked links new peer held has is =
       let e : one_if_greeting (link_of cmp links peer) ≡ (if is_greeting held.phase then 1 else 0) =
       ap one_if_greeting has in
-      omega (arith, written_needs links new (opened t owed) peer held has is, once_greeted held.phase)
+      omega (arith, written_needs links new (opened t owed asked) peer held has is, once_greeted held.phase)
 
   pub needs_heard : (t : Duration) (owed : ℕ) (waiting : Option Waiting) (links new : List (C × Held)) (peer : C) (held : Held) →
       link_of cmp links peer ≡ Some held →
@@ -124,6 +127,65 @@ module _ {C : Type 0} {cmp : C → C → Ordering} (total : IsTotalOrder cmp) wh
       needs new ≡ needs links
   needs_heard t owed waiting links new peer held has is =
       omega (arith, written_needs links new (hearing t owed waiting) peer held has is)
+
+  -- a link is written over, if there is one: of what is there, and what isn't
+  module _ (links new : List (C × Held)) (f : Held → Held) (peer : C)
+      (noted : (held : Held) → link_of cmp links peer ≡ Some held → new ≡ set_value (is_at (cmp peer)) links (f held))
+      (none : link_of cmp links peer ≡ None → new ≡ links) where
+    pub noted_at : (q : C) → link_of cmp new q
+        ≡ cond (is_at (cmp peer) q) (option_map f (link_of cmp links q)) (link_of cmp links q)
+    noted_at q = go (link_of cmp links peer) refl
+      where
+        of_none : link_of cmp links peer ≡ None → (b : Bool) → is_at (cmp peer) q ≡ b →
+            link_of cmp links q ≡ cond b (option_map f (link_of cmp links q)) (link_of cmp links q)
+        of_none has true e = sym (alike links peer q e) ∙ has ∙ ap (option_map f) (sym has ∙ alike links peer q e)
+        of_none has false e = refl
+
+        go : (o : Option Held) → link_of cmp links peer ≡ o → link_of cmp new q
+            ≡ cond (is_at (cmp peer) q) (option_map f (link_of cmp links q)) (link_of cmp links q)
+        go None has = ap (λ ls. link_of cmp ls q) (none has) ∙ of_none has (is_at (cmp peer) q) refl
+        go (Some held) has = written_at links new f peer held has (noted held has) q
+
+    pub noted_count : length new ≡ length links
+    noted_count = go (link_of cmp links peer) refl
+      where
+        go : (o : Option Held) → link_of cmp links peer ≡ o → length new ≡ length links
+        go None has = ap length (none has)
+        go (Some held) has = written_count links new f peer held has (noted held has)
+
+    pub noted_needs : ((held : Held) → need_of (f held).phase ≡ need_of held.phase) → needs new ≡ needs links
+    noted_needs same = go (link_of cmp links peer) refl
+      where
+        go : (o : Option Held) → link_of cmp links peer ≡ o → needs new ≡ needs links
+        go None has = ap needs (none has)
+        go (Some held) has = omega (arith, written_needs links new f peer held has (noted held has), same held)
+
+  -- one fewer is to be asked, once one was that is to be
+  pub fewer_to_ask : (tick now owed : ℕ) (asked : Asked) (links new : List (C × Held)) (peer : C) →
+      ((held : Held) → link_of cmp links peer ≡ Some held → new ≡ set_value (is_at (cmp peer)) links (asking owed asked held)) →
+      now < as_nanos asked.at + max tick 1 → IsSomeAnd (link_of cmp links peer) (λ h. is_to_ask tick now h ≡ true) →
+      to_ask tick now new + 1 ≡ to_ask tick now links
+  fewer_to_ask tick now owed asked links new peer noted later is = go (link_of cmp links peer) refl is
+    where
+      count : Held → ℕ
+      count h = cond (is_to_ask tick now h) 1 0
+
+      not_yet : (ph : Phase) (b : Bool) → nat_le (as_nanos asked.at + max tick 1) now ≡ b → (is_open ph && b) ≡ false
+      not_yet phase.Open true at = absurd (grind (arith, nat_tests))
+      not_yet phase.Open false at = refl
+      not_yet phase.Greeting b at = refl
+      not_yet phase.Closing b at = refl
+
+      go : (o : Option Held) → link_of cmp links peer ≡ o → IsSomeAnd o (λ h. is_to_ask tick now h ≡ true) →
+          to_ask tick now new + 1 ≡ to_ask tick now links
+      go None has is = absurd is
+      go (Some held) has is = let one : count held ≡ 1 = ap (λ b. cond b 1 0) is in
+          let none : count (asking owed asked held) ≡ 0 =
+          ap (λ b. cond b 1 0) (not_yet held.phase (nat_le (as_nanos asked.at + max tick 1) now) refl) in
+          let sums = sum_by-set_value count (is_at (cmp peer)) links held (asking owed asked held) has in
+          let same : to_ask tick now new ≡ to_ask tick now (set_value (is_at (cmp peer)) links (asking owed asked held)) =
+          ap (to_ask tick now) (noted held has) in
+          omega (arith, one, none, sums, same)
 
   pub needs_put : (links new : List (C × Held)) (peer : C) (held : Held) →
       IsStrictlySortedBy cmp (keys_of links) → link_of cmp links peer ≡ None →

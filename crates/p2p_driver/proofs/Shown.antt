@@ -1,7 +1,7 @@
 -- A history that is right: a set and a stream come, the stream claims and is proved, the peer greets
 -- and is asked, its message is delivered, its list is admitted and taken, its question is answered,
--- and it is blocked for a second greeting. So the premises of the laws are met. Keys and signatures
--- are of one byte.
+-- a tick later it is asked for all infos, and it is blocked for a second greeting. So the premises
+-- of the laws are met. Keys and signatures are of one byte.
 use Rattle.std.proofs.Common.{◌≡◌, ℕ, Bool, true, false, List, [], ◌∷◌, Some, refl}
 use Rattle.std.proofs.Common.{arith}
 use Rattle.std.specs.List.Sorted.{IsStrictlySortedBy}
@@ -31,6 +31,7 @@ use Rattle.p2p_driver.specs.declared.arrivals.Room.TheVariants as room
 use Rattle.p2p_driver.specs.declared.links.Waiting.{Waiting}
 use Rattle.p2p_driver.specs.declared.origin.Origin.{Origin}
 use Rattle.p2p_driver.specs.declared.pace.Pace.{Pace}
+use Rattle.p2p_driver.specs.declared.questions.Question.{Question}
 
 abbrev seconds : ℕ → Duration
 seconds n = record { secs = n; nanos = 0 }
@@ -60,6 +61,10 @@ message = record { channel = 7; message = 65 ∷ [] }
 abbrev heard : ℕ → ℕ → Cause → Outcome ℕ ℕ → Happening ℕ ℕ
 heard t owed c x = Happening.Heard 1 1 (seconds t) owed c x
 
+-- a question for set 0, the newest one
+abbrev asking : List ℕ → Question
+asking frame = record { index = Some 0; newest = true; frame = frame }
+
 -- a frame that came at 100 s since the epoch
 abbrev frame : List ℕ → Cause
 frame bytes = Cause.OfFrame bytes (seconds 100)
@@ -68,7 +73,15 @@ module _ (given : Pace) where
   abbrev b : Base ℕ ℕ
   b = record {
     made = asker;
-    pace = record given { arrivals = 4; by_address = 4; links = 4; inbound = 4; owed = 4 };
+    pace = record given {
+      arrivals = 4;
+      by_address = 4;
+      links = 4;
+      inbound = 4;
+      owed = 4;
+      tick = seconds 30;
+      refresh = 2;
+    };
     greeting = wire.spelling (payload.Greeting own_of_9);
     wire = wire;
   }
@@ -89,7 +102,7 @@ module _ (given : Pace) where
   greeting_waits = heard 2 0 (frame hello) (Outcome.Waits (waits hello)) ∷ proved
 
   abbrev greeted : List (Happening ℕ ℕ)
-  greeted = heard 3 1 (Cause.OfVerdicts (true ∷ [])) (Outcome.Greets greeter (Some (having true false))) ∷ greeting_waits
+  greeted = heard 3 1 (Cause.OfVerdicts (true ∷ [])) (Outcome.Greets greeter (Some (asking (having true false)))) ∷ greeting_waits
 
   abbrev delivered : List (Happening ℕ ℕ)
   delivered = heard 4 1 (frame (0 ∷ 7 ∷ 1 ∷ 65 ∷ [])) (Outcome.Delivers message) ∷ greeted
@@ -103,8 +116,11 @@ module _ (given : Pace) where
   abbrev answered : List (Happening ℕ ℕ)
   answered = heard 5 0 (frame (having false false)) (Outcome.Answers (wire.spelling (payload.Peers (greeter ∷ [])))) ∷ listed
 
+  abbrev asked_again : List (Happening ℕ ℕ)
+  asked_again = Happening.Asked 1 1 (seconds 33) 1 (Some (asking (having false false))) ∷ answered
+
   abbrev broken : List (Happening ℕ ℕ)
-  broken = heard 6 0 (frame (1 ∷ [])) (Outcome.Breaks breach.SecondGreeting (Some true)) ∷ answered
+  broken = heard 34 1 (frame (1 ∷ [])) (Outcome.Breaks breach.SecondGreeting (Some true)) ∷ asked_again
 
   set_right : AreRight b set
   unfolding life IsStrictlySortedBy
@@ -144,7 +160,7 @@ module _ (given : Pace) where
   greeted_right : AreRight b greeted
   unfolding life payload_at body_at length_at groups groups_at texts.info_at ingress_at ip_at socket_at spellings packed
   greeted_right = (
-    record { number = refl; comes = (refl, (refl, refl)); owes = refl; done = refl },
+    record { number = refl; comes = (refl, (refl, refl)); owes = refl; done = (refl, refl, (0, refl, refl)) },
     omega arith,
     waits_right,
   )
@@ -191,17 +207,25 @@ module _ (given : Pace) where
     listed_right,
   )
 
+  asked_again_right : AreRight b asked_again
+  unfolding life payload_at body_at groups groups_at packed spellings
+  asked_again_right = (
+    record { number = refl; due = refl; owes = refl; asks = (refl, refl, (0, refl, refl)) },
+    omega arith,
+    answered_right,
+  )
+
   -- all of it is right
   pub right : AreRight b broken
   unfolding life
   right = (
     record { number = refl; comes = refl; owes = refl; done = refl },
     omega arith,
-    answered_right,
+    asked_again_right,
   )
 
-  -- it was asked once, one list was admitted, and it has greeted
-  pub shown : (asked_on asker.directory 1 broken ≡ 1) × (lists_on asker.directory 1 broken ≡ 1)
+  -- it was asked twice, one list was admitted, and it has greeted
+  pub shown : (asked_on asker.directory 1 broken ≡ 2) × (lists_on asker.directory 1 broken ≡ 1)
       × (has_greeted asker.directory 1 broken ≡ true)
   unfolding payload_at body_at groups spellings
   shown = (refl, refl, refl)

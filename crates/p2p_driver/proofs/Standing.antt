@@ -16,8 +16,10 @@ use Rattle.p2p_directory.specs.Nodes.{NodeView, NodeStandsAt}
 use Rattle.p2p_driver.specs.Answers.{AnswersView, AreKept}
 use Rattle.p2p_driver.specs.Arrivals.{has_number, arrival_of, arrived, claimed, room_of}
 use Rattle.p2p_driver.specs.Frames.{Cause, Outcome}
-use Rattle.p2p_driver.specs.Happenings.{Happening, time_by, latest_at, latest_of, calls_of, calls_by, came_by, leaves_by, claim_by, is_new, answered_in, answered_by, is_proved, is_ended, link_at, opened_by, ends_by, said, says_by, taken, taken_by, crowded_out, sent, shut, shut_all, parted, calls_for, heard_as, answered_on, why_late}
-use Rattle.p2p_driver.specs.Links.{link_of, link_with, closed}
+use Rattle.p2p_driver.specs.Happenings.{Happening, time_by, latest_at, latest_of, calls_of, calls_by, came_by, leaves_by, claim_by, is_new, answered_in, answered_by, is_proved, is_ended, link_at, opened_by, ends_by, said, says_by, taken, taken_by, crowded_out, sent, shut, shut_all, parted, calls_for, heard_as, answered_on, asking_on, why_late}
+use Rattle.p2p_driver.specs.Links.{link_of, link_with, asking, closed}
+use Rattle.p2p_driver.specs.Questions.{asked_after}
+use Rattle.p2p_driver.specs.declared.questions.Question.{Question}
 use Rattle.p2p_driver.specs.Drivers.{DriverView, Base, DriverStandsAt, IsRight, IsInTime, AreStreams, IsLinkOf}
 use Rattle.p2p_driver.specs.declared.actions.Action.{Action}
 use Rattle.p2p_driver.specs.declared.actions.Why.TheVariants as why
@@ -28,7 +30,7 @@ use Rattle.p2p_driver.specs.declared.origin.Origin.{Origin}
 use Rattle.std.proofs.lemmas.List.{append-nil}
 use Rattle.p2p_driver.proofs.Answered.{kept_at_later}
 use Rattle.p2p_driver.proofs.StreamHistory.{streams_stay, streams_leave, streams_claim, streams_come, next_stays, next_rises}
-use Rattle.p2p_driver.proofs.LinkHistory.{touch_by, untouched, closing_if, link_after, link_stays, link_later, link_opens, link_hears, ended_link, closed_link, said_more, took_one}
+use Rattle.p2p_driver.proofs.LinkHistory.{touch_by, untouched, closing_if, link_after, link_stays, link_later, link_opens, link_hears, link_asks, ended_link, closed_link, said_more, took_one}
 
 module _ {C S : Type 0} where
   -- how many are of a kind, with one more
@@ -322,6 +324,32 @@ module _ {C S : Type 0} (b : Base C S) (h : List (Happening C S)) (v : DriverVie
         actions = says (answered_on n p outcome (link_of d.cmp v.links p)) e refl (ap (answered_on n p outcome) (sym (at.links p)));
         right = (right, in_time (as_nanos t) after, at.right);
       }
+
+  -- a question was due
+  pub asks : (n : ℕ) (p : C) (t : Duration) (owed : ℕ) (question : Option Question) (links : List (C × Held)) →
+      IsRight b h (Happening.Asked n p t owed question) → v.latest ≤ as_nanos t →
+      ((q : C) → link_of d.cmp links q ≡ (if is_at (d.cmp p) q then option_map (λ x. asking owed (asked_after t question x.asked) x) (link_of d.cmp v.links q) else link_of d.cmp v.links q)) →
+      length links ≡ length v.links →
+      DriverStandsAt b (Happening.Asked n p t owed question ∷ h) (record v {
+        latest = as_nanos t;
+        links = links;
+        actions = v.actions ++ asking_on n question;
+      })
+  asks n p t owed question links right after tied same = let e : Happening C S = Happening.Asked n p t owed question in record {
+    node = at.node;
+    pace = at.pace;
+    greeting = at.greeting;
+    cooldown = at.cooldown;
+    latest = refl;
+    next = at.next ∙ sym (next_stays e h refl);
+    arrivals = streams_stay e h v.arrivals refl (λ j. refl) (λ j. refl) (λ j. refl) at.arrivals;
+    answers = answers_later (as_nanos t) after;
+    links = λ q. tied q ∙ ap (λ o. if is_at (d.cmp p) q then option_map (λ x. asking owed (asked_after t question x.asked) x) o else o) (at.links q)
+        ∙ sym (link_asks d q p n t owed question h);
+    count = ap (λ k. k + count_by is_ended (e ∷ h)) same ∙ count_stays e refl refl;
+    actions = says (asking_on n question) e refl refl;
+    right = (right, in_time (as_nanos t) after, at.right);
+  }
 
   -- infos came
   pub gives : (infos : List (Info C S)) (t : Duration) (node : NodeView C S) → v.latest ≤ as_nanos t →

@@ -37,6 +37,7 @@ module _ {C S : Type 0} (b : Base C S) where
   begins (Happening.StreamLate n t ∷ h) right = more (Happening.StreamLate n t) h refl (begins h right.2)
   begins (Happening.LinkLate n q t ∷ h) right = more (Happening.LinkLate n q t) h refl (begins h right.2)
   begins (Happening.Heard n q t owed cause outcome ∷ h) right = more (Happening.Heard n q t owed cause outcome) h refl (begins h right.2)
+  begins (Happening.Asked n q t owed question ∷ h) right = more (Happening.Asked n q t owed question) h refl (begins h right.2)
   begins (Happening.Given infos t ∷ h) right = more (Happening.Given infos t) h refl (begins h right.2)
   begins (Happening.Barred q t taken ∷ h) right = more (Happening.Barred q t taken) h refl (begins h right.2)
   begins (Happening.Parted q t ∷ h) right = more (Happening.Parted q t) h refl (begins h right.2)

@@ -14,9 +14,11 @@ use Rattle.p2p_driver.specs.declared.links.Phase.TheVariants as phase
 use Rattle.p2p_driver.specs.declared.links.Waiting.{Waiting}
 use Rattle.p2p_driver.specs.Frames.{Cause, Outcome, IsWaiting, IsOutcome}
 use Rattle.p2p_driver.specs.Happenings.{Happening, calls_of, opened_by, ends_by, heard_as}
-use Rattle.p2p_driver.specs.Links.{link_of, link_with, closed, opened, hearing, waiting_in}
+use Rattle.p2p_driver.specs.Links.{link_of, link_with, closed, opened, hearing, asking, waiting_in}
+use Rattle.p2p_driver.specs.Questions.{asked_after}
+use Rattle.p2p_driver.specs.declared.questions.Question.{Question}
 use Rattle.p2p_driver.specs.Drivers.{DriverView, Base, DriverStandsAt, AreRight, IsHeard, link, standing}
-use Rattle.p2p_driver.proofs.LinkHistory.{touch_by, closing_if, link_after, link_stays, link_later, link_opens, link_hears, ended_link, closed_link}
+use Rattle.p2p_driver.proofs.LinkHistory.{touch_by, closing_if, link_after, link_stays, link_later, link_opens, link_hears, link_asks, ended_link, closed_link}
 
 none_waits : (w : Waiting) → ¬ (None ≡ Some w)
 none_waits w is = cc
@@ -50,8 +52,17 @@ module _ {C S : Type 0} (b : Base C S) where
   ended p true o may = of_none p
   ended p false o may = may
 
+  -- .. or was asked on
+  asks : (p : C) (x : Bool) (t : Duration) (owed : ℕ) (question : Option Question) (o : Option Held) → MayWait p o →
+      MayWait p (if x then option_map (λ h. asking owed (asked_after t question h.asked) h) o else o)
+  asks p true t owed question None may = of_none p
+  asks p true t owed question (Some held) may = λ x is w waits.
+      subst (λ (y : Held). y.waiting ≡ Some w → IsWaiting d.cmp b.wire (standing b []).limits (standing b []).judge y.phase p w) (some_is is)
+      (may held refl w) waits
+  asks p false t owed question o may = may
+
   -- what comes of a frame that waits: it may wait
-  waits : (cs : List (Call C S)) (p : C) (ph : Phase) (owed : ℕ) (waiting : Option Waiting) (c : Cause) (w : Waiting) →
+  pub waits : (cs : List (Call C S)) (p : C) (ph : Phase) (owed : ℕ) (waiting : Option Waiting) (c : Cause) (w : Waiting) →
       IsOutcome d.cmp b.wire (standing b cs) ph owed waiting p c (Outcome.Waits w) →
       IsWaiting d.cmp b.wire (standing b []).limits (standing b []).judge ph p w
   waits cs p phase.Greeting owed None (Cause.OfFrame frame wall) w comes = comes.1
@@ -88,7 +99,7 @@ module _ {C S : Type 0} (b : Base C S) where
   hears p held t owed (Outcome.Waits v) may = λ x is.
       subst (λ (y : Held). (w : Waiting) → y.waiting ≡ Some w → IsWaiting d.cmp b.wire (standing b []).limits (standing b []).judge y.phase p w) (some_is is)
       (λ w now. subst (IsWaiting d.cmp b.wire (standing b []).limits (standing b []).judge held.phase p) (in_phase held.phase v w now) (may v refl))
-  hears p held t owed (Outcome.Greets info question) may = without p (opened t owed held) refl
+  hears p held t owed (Outcome.Greets info question) may = without p (opened t owed (asked_after t question held.asked) held) refl
   hears p held t owed (Outcome.Takes infos) may = without p (hearing t owed None held) (none_in held.phase)
   hears p held t owed (Outcome.Answers reply) may = without p (hearing t owed None held) (none_in held.phase)
   hears p held t owed (Outcome.Delivers message) may = without p (hearing t owed None held) (none_in held.phase)
@@ -155,6 +166,8 @@ module _ {C S : Type 0} (b : Base C S) where
         closed_by (Happening.LinkLate n q t) h p (same d q p) refl refl refl (may_wait h right.2 p)
     may_wait (Happening.Heard n q t owed c outcome ∷ h) right p = subst (MayWait p) (sym (link_hears d p q n t owed c outcome h))
         (heard h p q n t owed c outcome right.0 (may_wait h right.2 p))
+    may_wait (Happening.Asked n q t owed question ∷ h) right p = subst (MayWait p) (sym (link_asks d p q n t owed question h))
+        (asks p (same d q p) t owed question (link b p h) (may_wait h right.2 p))
     may_wait (Happening.Given infos t ∷ h) right p = let e : Happening C S = Happening.Given infos t in
         stays e h p (link_stays d p e h refl refl refl) (may_wait h right.2 p)
     may_wait (Happening.Barred q t taken ∷ h) right p =

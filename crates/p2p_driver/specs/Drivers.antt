@@ -2,6 +2,7 @@
 use Rattle.std.specs.Prelude.{ℕ, ◌≡◌, ◌+◌, ◌≤◌, ◌<◌, ◌*◌, ◌/◌, ◌%◌, ◌^◌, ◌&&◌, ◌⊎◌, max}
 use Rattle.std.specs.Prelude.{not, nat_lt, Bool, true, false, Result, Ok, Err}
 use Rattle.std.specs.Prelude.{List, [], ◌∷◌, ◌++◌, length, find, Option, Some, None, is_some}
+use Rattle.std.specs.Prelude.{IfSome}
 use Rattle.std.specs.List.{count_by}
 use Rattle.std.specs.Option.{IsSomeAnd}
 use Rattle.std.specs.Duration.{as_nanos}
@@ -21,7 +22,8 @@ use Rattle.p2p_driver.specs.Actions.{ActionsView}
 use Rattle.p2p_driver.specs.Answers.{AnswersView, AreKept, MayAnswer, IsClaimRefusal, roomless}
 use Rattle.p2p_driver.specs.Arrivals.{has_number, is_unclaimed, deadline_of, room_of}
 use Rattle.p2p_driver.specs.Frames.{Cause, Outcome, IsOutcome, owed_after}
-use Rattle.p2p_driver.specs.Links.{link_of, needs, is_late}
+use Rattle.p2p_driver.specs.Links.{link_of, needs, is_late, is_to_ask}
+use Rattle.p2p_driver.specs.Questions.{owed_with, IsQuestion}
 use Rattle.p2p_driver.specs.Steps.{is_claim_of, no_proof_of, IsBlock, IsDone}
 use Rattle.p2p_driver.specs.Happenings.{Happening, latest_at, calls_of, next_at, stream_at}
 use Rattle.p2p_driver.specs.Happenings.{answered_in, link_count, is_proved, is_ended, link_at}
@@ -34,6 +36,7 @@ use Rattle.p2p_driver.specs.declared.arrivals.Room.TheVariants as room
 use Rattle.p2p_driver.specs.declared.links.Held.{Held}
 use Rattle.p2p_driver.specs.declared.origin.Origin.{Origin}
 use Rattle.p2p_driver.specs.declared.pace.Pace.{Pace}
+use Rattle.p2p_driver.specs.declared.questions.Question.{Question}
 
 -- WHAT IS SEEN of a driver: its node, settings, own greeting and cooldown, the latest time, the
 -- number of the next stream, the streams that aren't proved, the claims that were answered, the
@@ -170,7 +173,16 @@ module _ {C S : Type 0} (b : Base C S) where
     pub comes : IsOutcome s.cmp b.wire (standing (calls_of h)) held.phase held.owed held.waiting p
         cause outcome
     pub owes : owed ≡ owed_after held.phase outcome b.pace.owed held.owed
-    pub done : IsDone b.wire b.made (calls_of h) p t outcome
+    pub done : IsDone b.wire b.made b.pace.refresh held.asked (calls_of h) p t outcome
+
+  -- a question was due at t for the peer p of link n, and asked if memory was there
+  pub record IsAsked (h : List (Happening C S)) (n : ℕ) (p : C) (t : Duration) (owed : ℕ)
+      (question : Option Question) (held : Held) : Type 0 where
+    pub number : held.number ≡ n
+    pub due : is_to_ask (as_nanos b.pace.tick) (as_nanos t) held ≡ true
+    pub owes : owed ≡ owed_with question b.pace.owed held.owed
+    pub asks : IfSome question
+        (IsQuestion b.wire b.made (world_after s (calls_of h)) b.pace.refresh held.asked)
 
   -- what may be done after a history, and when
   abbrev pub IsRight : List (Happening C S) → Happening C S → Type 0
@@ -203,6 +215,8 @@ module _ {C S : Type 0} (b : Base C S) where
       × (is_late (as_nanos b.pace.greeting) (as_nanos b.pace.silence) (as_nanos t) held ≡ true))
   IsRight h (Happening.Heard n p t owed cause outcome) =
       IsSomeAnd (link p h) (IsHeard h n p t owed cause outcome)
+  IsRight h (Happening.Asked n p t owed question) =
+      IsSomeAnd (link p h) (IsAsked h n p t owed question)
   IsRight h (Happening.Given infos t) = Unit {0}
   IsRight h (Happening.Barred p t taken) = IsBlock b.made (calls_of h) p (as_nanos t) taken
   IsRight h (Happening.Parted p t) = is_some (link p h) ≡ true

@@ -1,7 +1,7 @@
 -- Frames of links: what a frame is, and what comes of it. Frames are bytes, moments nanoseconds.
-use Rattle.std.specs.Prelude.{ℕ, ◌≡◌, ◌==◌, ◌<◌, ◌-◌, ◌+◌, ◌&&◌, min, not, Bool, true, false}
-use Rattle.std.specs.Prelude.{List, [], ◌∷◌, ◌++◌, length, Option, Some, None, IfSome}
-use Rattle.std.specs.Prelude.{option_map, unwrap_or, Result, Ok, Err}
+use Rattle.std.specs.Prelude.{ℕ, ◌≡◌, ◌==◌, ◌<◌, ◌-◌, ◌&&◌, not, Bool, true, false}
+use Rattle.std.specs.Prelude.{List, [], ◌∷◌, length, Option, Some, None}
+use Rattle.std.specs.Prelude.{Result, Ok, Err}
 use Rattle.std.specs.Duration.{as_nanos}
 use Rattle.std.specs.BTreeMap.{is_at}
 use Rattle.std.specs.Option.{IsSomeAnd}
@@ -18,12 +18,14 @@ use Rattle.p2p_discovery.specs.declared.discovery.Payload.TheVariants as payload
 use Rattle.p2p_discovery.specs.declared.discovery.PayloadConfig.{PayloadConfig}
 use Rattle.p2p_discovery.specs.Judgement.{Judge, refusal_if, list_refusal_by, to_verify}
 use Rattle.p2p_discovery.specs.Reading.{whole}
-use Rattle.p2p_directory.specs.Received.{Wire, Standing, first_verdict, ask_frame_at}
+use Rattle.p2p_directory.specs.Received.{Wire, Standing, first_verdict}
+use Rattle.p2p_driver.specs.Questions.{owed_with}
 use Rattle.p2p_driver.specs.declared.actions.Breach.{Breach}
 use Rattle.p2p_driver.specs.declared.actions.Breach.TheVariants as breach
 use Rattle.p2p_driver.specs.declared.links.Phase.{Phase}
 use Rattle.p2p_driver.specs.declared.links.Phase.TheVariants as phase
 use Rattle.p2p_driver.specs.declared.links.Waiting.{Waiting}
+use Rattle.p2p_driver.specs.declared.questions.Question.{Question}
 
 -- by what the peer of a link is heard
 pub data Cause : Type 0 where
@@ -36,8 +38,8 @@ pub data Cause : Type 0 where
 pub data Outcome (C S : Type 0) : Type 0 where
   -- the frame waits until it is told which of its signatures are right
   Waits : (waiting : Waiting) → Outcome C S
-  -- the peer has greeted: its info is applied, and it is asked with this frame, if memory is there
-  Greets : (info : Info C S) (question : Option (List ℕ)) → Outcome C S
+  -- the peer has greeted: its info is applied, and it is asked this question, if memory is there
+  Greets : (info : Info C S) (question : Option Question) → Outcome C S
   -- infos are applied
   Takes : (infos : List (Info C S)) → Outcome C S
   -- a question is answered with this frame
@@ -71,7 +73,7 @@ is_unasked owed frame = (owed == 0) && (begins_with 3 frame && not (is_empty_lis
 
 -- how many questions are owed after an outcome, of so many before and at most so many
 abbrev pub owed_after : {C S : Type 0} → Phase → Outcome C S → ℕ → ℕ → ℕ
-owed_after ph (Outcome.Greets info (Some question)) most owed = min (owed + 1) most
+owed_after ph (Outcome.Greets info question) most owed = owed_with question most owed
 owed_after ph (Outcome.Waits waiting) most owed = owed - 1
 owed_after ph outcome most owed = owed
 
@@ -203,9 +205,3 @@ module _ {C S : Type 0} (cmp : C → C → Ordering) (wire : Wire C S) (node : S
       (length verdicts ≡ w.count)
       × ComesOfVerdicts cmp wire node.limits node.judge w verdicts outcome
   IsOutcome ph owed waiting p cause outcome = ⊥
-
--- the question that a peer is asked first: for what is wanted of the set with the least index, or
--- the empty list, if there is no set
-abbrev pub first_question : {C S : Type 0} → Wire C S → Standing C S → List ℕ
-first_question wire node =
-    unwrap_or (ask_frame_at wire node 0) (wire.spelling (payload.Peers []))

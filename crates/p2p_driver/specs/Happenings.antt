@@ -1,7 +1,7 @@
 -- What a driver did, and what follows of it by looking back: the calls of its node, the streams,
 -- the links, and what was said. A history is the list of what was done, the newest first.
 use Rattle.std.specs.Prelude.{ℕ, ◌==◌, ◌+◌, ◌-◌, ◌&&◌, not, Bool, true, false, if◌then◌else◌}
-use Rattle.std.specs.Prelude.{List, [], ◌∷◌, ◌++◌, Option, Some, None, option_map}
+use Rattle.std.specs.Prelude.{List, [], ◌∷◌, ◌++◌, Option, Some, None, option_map, unwrap_or}
 use Rattle.std.specs.List.{list_any, count_by}
 use Rattle.std.specs.BTreeMap.{is_at}
 use Rattle.std.specs.Duration.{as_nanos}
@@ -12,6 +12,7 @@ use Rattle.p2p_tracker.specs.Calls.{Settings, Call}
 use Rattle.p2p_tracker.specs.Calls.Call.{Track, Listen, Connect, Release, Update, Block}
 use Rattle.p2p_tracker.specs.Calls.Call.{UnblockExpired, ForgetCooled}
 use Rattle.p2p_tracker.specs.History.{same, last_with}
+use Rattle.p2p_driver.specs.Questions.{asked_after, counted}
 use Rattle.p2p_driver.specs.Frames.{Cause, Outcome, waiting_by}
 use Rattle.p2p_driver.specs.Links.{closed, opened, hearing, waiting_in, is_ungreeted}
 use Rattle.p2p_discovery.specs.declared.discovery.Info.{Info}
@@ -24,11 +25,13 @@ use Rattle.p2p_driver.specs.declared.actions.Why.TheVariants as why
 use Rattle.p2p_driver.specs.declared.arrivals.Arrival.{Arrival}
 use Rattle.p2p_driver.specs.declared.arrivals.Room.{Room}
 use Rattle.p2p_driver.specs.declared.arrivals.Room.TheVariants as room
+use Rattle.p2p_driver.specs.declared.links.Asked as questions
 use Rattle.p2p_driver.specs.declared.links.Held.{Held}
 use Rattle.p2p_driver.specs.declared.links.Waiting.{Waiting}
 use Rattle.p2p_driver.specs.declared.links.Phase.{Phase}
 use Rattle.p2p_driver.specs.declared.links.Phase.TheVariants as phase
 use Rattle.p2p_driver.specs.declared.origin.Origin.{Origin}
+use Rattle.p2p_driver.specs.declared.questions.Question.{Question}
 
 -- what a driver did in one call, or in one part of a call
 pub data Happening (C S : Type 0) : Type 0 where
@@ -57,6 +60,9 @@ pub data Happening (C S : Type 0) : Type 0 where
   -- at t the peer p of link n was heard, and this came of it: so many questions are owed then
   Heard : (n : ℕ) (p : C) (t : Duration) (owed : ℕ) (cause : Cause) (outcome : Outcome C S) →
       Happening C S
+  -- a question was due at t for the peer p of link n, and asked if memory was there: so many
+  -- questions are owed then
+  Asked : (n : ℕ) (p : C) (t : Duration) (owed : ℕ) (question : Option Question) → Happening C S
   -- infos came at t from the application
   Given : (infos : List (Info C S)) (t : Duration) → Happening C S
   -- the application blocked p at t: whether that was taken
@@ -90,6 +96,7 @@ module _ {C S : Type 0} where
   time_by (Happening.StreamLate n t) = Some t
   time_by (Happening.LinkLate n p t) = Some t
   time_by (Happening.Heard n p t owed cause outcome) = Some t
+  time_by (Happening.Asked n p t owed question) = Some t
   time_by (Happening.Given infos t) = Some t
   time_by (Happening.Barred p t taken) = Some t
   time_by (Happening.Parted p t) = Some t
@@ -224,10 +231,29 @@ is_greeted outcome = false
 -- what it makes of what is kept of the link of the peer that was heard at t, if so many questions
 -- are owed then
 abbrev pub heard_as : {C S : Type 0} → Duration → ℕ → Outcome C S → Held → Held
-heard_as t owed (Outcome.Greets info question) = opened t owed
-heard_as t owed (Outcome.Breaks breach blocked) = closed
-heard_as t owed Outcome.IsEarly = closed
-heard_as t owed outcome = hearing t owed (waiting_by outcome)
+heard_as t owed (Outcome.Greets info question) held =
+    opened t owed (asked_after t question held.asked) held
+heard_as t owed (Outcome.Breaks breach blocked) held = closed held
+heard_as t owed Outcome.IsEarly held = closed held
+heard_as t owed outcome held = hearing t owed (waiting_by outcome) held
+
+-- a question was due since the peer was heard at t: it was asked if memory was there
+abbrev pub tried_with : {C S : Type 0} → Duration → Outcome C S →
+    Option (Duration × Option Question)
+tried_with t (Outcome.Greets info question) = Some (t, question)
+tried_with t outcome = None
+
+-- the index of the set that was asked for, if one was
+abbrev pub index_tried : Option (Duration × Option Question) → Option ℕ
+index_tried None = None
+index_tried (Some (t, None)) = None
+index_tried (Some (t, Some question)) = question.index
+
+-- the newest set was asked for
+abbrev pub newest_tried : Option (Duration × Option Question) → Bool
+newest_tried None = false
+newest_tried (Some (t, None)) = false
+newest_tried (Some (t, Some question)) = question.newest
 
 module _ {C S : Type 0} (s : Settings C S) where
   -- LINKS, of which a peer has one at most
@@ -256,18 +282,55 @@ module _ {C S : Type 0} (s : Settings C S) where
   greets_by p (Happening.Heard n q t owed cause outcome) = is_greeted outcome && same s q p
   greets_by p _ = false
 
-  -- by it p was heard, and its link goes on: when, how many questions are owed then, what waits
-  abbrev pub heard_by : C → Happening C S → Option (Duration × ℕ × Option Waiting)
+  -- by it p was heard, and its link goes on: when, and what waits
+  abbrev pub heard_by : C → Happening C S → Option (Duration × Option Waiting)
   heard_by p (Happening.Heard n q t owed cause outcome) =
-      if not (is_closing outcome) && same s q p then Some (t, owed, waiting_by outcome) else None
+      if not (is_closing outcome) && same s q p then Some (t, waiting_by outcome) else None
   heard_by p _ = None
 
+  -- .. how many questions are owed after it
+  abbrev pub owed_by : C → Happening C S → Option ℕ
+  owed_by p (Happening.Heard n q t owed cause outcome) =
+      if not (is_closing outcome) && same s q p then Some owed else None
+  owed_by p (Happening.Asked n q t owed question) = if same s q p then Some owed else None
+  owed_by p _ = None
+
+  -- by it a question was due for p: when, and which one was asked, if memory was there
+  abbrev pub tried_by : C → Happening C S → Option (Duration × Option Question)
+  tried_by p (Happening.Heard n q t owed cause outcome) =
+      if same s q p then tried_with t outcome else None
+  tried_by p (Happening.Asked n q t owed question) =
+      if same s q p then Some (t, question) else None
+  tried_by p _ = None
+
+  -- .. the index of the set that was asked for, if one was
+  abbrev pub index_by : C → Happening C S → Option ℕ
+  index_by p e = index_tried (tried_by p e)
+
+  -- .. it was the newest
+  abbrev pub newest_by : C → Happening C S → Bool
+  newest_by p e = newest_tried (tried_by p e)
+
   -- what is kept of how p was heard last since its link began, or else of when that was
-  abbrev pub last_heard : Duration →
-      Option ((Duration × ℕ × Option Waiting) × List (Happening C S)) →
-      Duration × ℕ × Option Waiting
-  last_heard since None = (since, 0, None)
+  abbrev pub last_heard : Duration → Option ((Duration × Option Waiting) × List (Happening C S)) →
+      Duration × Option Waiting
+  last_heard since None = (since, None)
   last_heard since (Some found) = found.0
+
+  -- when a question was due last since its link began, or else when that was
+  abbrev pub last_tried : Duration →
+      Option ((Duration × Option Question) × List (Happening C S)) → Duration
+  last_tried since None = since
+  last_tried since (Some found) = found.0.0
+
+  -- what is kept of the questions of p, by when its link began, and what was done since: when one
+  -- was due last, which set was asked for last, and how often the newest one was
+  abbrev pub asked_in : C → Duration → List (Happening C S) → questions.Asked
+  asked_in p t since = record {
+    at = last_tried t (last_with (tried_by p) since);
+    index = option_map (λ found. found.0) (last_with (index_by p) since);
+    rounds = counted (count_by (newest_by p) since);
+  }
 
   -- what is kept of the link of p, by its number and when it began, and what was done since
   abbrev pub kept_of : C → ℕ → Duration → List (Happening C S) → Held
@@ -278,8 +341,9 @@ module _ {C S : Type 0} (s : Settings C S) where
         phase = phase;
         since = t;
         heard = last.0;
-        owed = last.1;
-        waiting = waiting_in phase last.2;
+        owed = unwrap_or (option_map (λ found. found.0) (last_with (owed_by p) since)) 0;
+        waiting = waiting_in phase last.1;
+        asked = asked_in p t since;
       }
 
   -- the link of p, by its number and when it began, and what was done since
@@ -334,14 +398,14 @@ module _ {C : Type 0} where
   barred p b blocked = []
 
   -- p is asked on a link, if it is
-  abbrev pub asked : ℕ → Option (List ℕ) → List (Action C)
-  asked n None = []
-  asked n (Some question) = sent n question
+  abbrev pub asking_on : ℕ → Option Question → List (Action C)
+  asking_on n None = []
+  asking_on n (Some question) = sent n question.frame
 
   -- what comes of a frame of link n of p is said
   abbrev pub answered_on : {S : Type 0} → ℕ → C → Outcome C S → Option Held → List (Action C)
   answered_on n p (Outcome.Greets info question) link =
-      action.Told (event.Up (record { 0 = n }) p) ∷ asked n question
+      action.Told (event.Up (record { 0 = n }) p) ∷ asking_on n question
   answered_on n p (Outcome.Answers reply) link = sent n reply
   answered_on n p (Outcome.Breaks b blocked) link = shut p (why.Breach b) link ++ barred p b blocked
   answered_on n p Outcome.IsEarly link = shut p why.Future link
@@ -377,6 +441,7 @@ module _ {C S : Type 0} (s : Settings C S) (greeting : List ℕ) where
       shut p (why_late (link_at s p h)) (link_at s p h)
   says_by h (Happening.Heard n p t owed cause outcome) =
       answered_on n p outcome (link_at s p h)
+  says_by h (Happening.Asked n p t owed question) = asking_on n question
   says_by h (Happening.Barred p t taken) = shut p why.Blocked (link_at s p h)
   says_by h (Happening.Parted p t) = shut p why.Application (link_at s p h)
   says_by h _ = []

@@ -19,17 +19,16 @@ use Rattle.p2p_directory.specs.Received.{Wire}
 use Rattle.p2p_directory.specs.Run.{world_after}
 use Rattle.p2p_driver.specs.Frames.{Outcome, Shares, Spells, ComesFirst, ComesOf}
 use Rattle.p2p_driver.specs.Frames.{ComesOfVerdicts, refusal_of, is_greeting_frame, is_unasked}
-use Rattle.p2p_driver.specs.Frames.{first_question}
 use Rattle.p2p_driver.specs.Happenings.{answered_on, heard_as}
 use Rattle.p2p_driver.specs.Links.{link_of}
 use Rattle.p2p_driver.specs.Steps.{Makes}
 use Rattle.p2p_driver.specs.declared.actions.Action.{Action}
-use Rattle.p2p_driver.specs.declared.actions.Breach.{Breach}
 use Rattle.p2p_driver.specs.declared.actions.Breach.TheVariants as breach
 use Rattle.p2p_driver.specs.declared.frames.Came.{Came}
 use Rattle.p2p_driver.specs.declared.frames.Came.TheVariants as came
 use Rattle.p2p_driver.specs.declared.links.Held.{Held}
 use Rattle.p2p_driver.specs.declared.links.Waiting.{Waiting}
+use Rattle.p2p_driver.specs.declared.questions.Question.{Question}
 use Rattle.p2p_driver.specs.declared.serving.Judged.{Judged}
 use Rattle.p2p_driver.specs.declared.serving.Judged.TheVariants as judged
 use Rattle.p2p_driver.specs.declared.serving.Served.{Served}
@@ -113,7 +112,7 @@ module _ {C S : Type 0} (cmp : C → C → Ordering) (wire : Wire C S) where
   -- .. to verdicts on a frame that waits
   abbrev pub Judges : Waiting → List Bool → Judged → NodeView C S → NodeView C S → Type 0
   Judges w verdicts judged.Greeted v v2 = (info : Info C S)
-      × ((question : Option (List ℕ)) → IsJudged w verdicts (Outcome.Greets info question) v)
+      × ((question : Option Question) → IsJudged w verdicts (Outcome.Greets info question) v)
       × Makes cmp (Update (info ∷ []) ∷ []) v v2
   Judges w verdicts (judged.Applied count) v v2 = (infos : List (Info C S))
       × (count ≡ length infos) × IsJudged w verdicts (Outcome.Takes infos) v
@@ -123,11 +122,6 @@ module _ {C S : Type 0} (cmp : C → C → Ordering) (wire : Wire C S) where
       × (refusal_of cmp wire v.limits (judge_of cmp wire.verifies v.verifier) verdicts
       (as_nanos w.wall) p ≡ Some e)
   Judges w verdicts judged.Memory v v2 = v2 ≡ v
-
-  -- the question that a peer is asked first
-  abbrev pub IsFirstQuestion : List ℕ → NodeView C S → Type 0
-  IsFirstQuestion frame v = AtEach cmp v (λ m calls.
-      frame ≡ first_question wire (standing_in m wire (world_after m.directory calls)))
 
 -- WHAT BECOMES OF A LINK n of p, when this comes of a frame at t and so many questions are owed
 pub record Follows {C S : Type 0} (cmp : C → C → Ordering) (n : ℕ) (p : C) (t : Duration) (owed : ℕ)

@@ -1,6 +1,6 @@
 -- Words of the laws of drivers.
 use Rattle.std.specs.Prelude.{ℕ, ◌≡◌, ◌&&◌, Bool, true, false, List, [], ◌++◌, Option, Some, None}
-use Rattle.std.specs.Prelude.{if◌then◌else◌}
+use Rattle.std.specs.Prelude.{if◌then◌else◌, is_some}
 use Rattle.std.specs.List.{Contains, list_any, count_by}
 use Rattle.std.specs.Duration.{as_nanos}
 use Rattle.p2p_tracker.specs.Calls.{Settings}
@@ -11,6 +11,7 @@ use Rattle.p2p_driver.specs.declared.actions.Action.{Action}
 use Rattle.p2p_driver.specs.declared.actions.Action.TheVariants as action
 use Rattle.p2p_driver.specs.declared.actions.Why.{Why}
 use Rattle.p2p_driver.specs.declared.actions.Why.TheVariants as why
+use Rattle.p2p_driver.specs.declared.questions.Question.{Question}
 
 -- a list begins with these, and goes on
 abbrev pub Begins : {A : Type 0} → List A → List A → Type 0
@@ -34,15 +35,25 @@ bare (Outcome.Greets info question) = Outcome.Greets info None
 bare (Outcome.Breaks breach blocked) = Outcome.Breaks breach None
 bare outcome = outcome
 
--- by this outcome the peer is asked
+-- a set is asked for, if a question is
+abbrev pub is_for_set : Option Question → Bool
+is_for_set None = false
+is_for_set (Some question) = is_some question.index
+
+-- by this outcome the peer is asked for a set
 abbrev pub is_asked : {C S : Type 0} → Outcome C S → Bool
-is_asked (Outcome.Greets info (Some question)) = true
+is_asked (Outcome.Greets info question) = is_for_set question
 is_asked outcome = false
 
 -- by this one a list of infos is admitted: it waits until it is told which signatures are right
 abbrev pub is_list : {C S : Type 0} → Outcome C S → Bool
 is_list (Outcome.Waits waiting) = begins_with 3 waiting.frame
 is_list outcome = false
+
+-- by it a set came that was accepted
+abbrev pub is_set : {C S : Type 0} → Happening C S → Bool
+is_set (Happening.SetCame t index primary secondary torn) = true
+is_set e = false
 
 -- p is blocked by it at a moment: the application asks for that, or p broke a rule
 abbrev pub Blames : {C S : Type 0} → C → ℕ → Happening C S → Type 0
@@ -85,9 +96,10 @@ module _ {C S : Type 0} (s : Settings C S) where
   cut_by p (Happening.Parted q t) = if same s q p then Some why.Application else None
   cut_by p e = None
 
-  -- by it p is asked
+  -- by it p is asked for a set
   abbrev pub asks_by : C → Happening C S → Bool
   asks_by p (Happening.Heard n q t owed cause outcome) = same s q p && is_asked outcome
+  asks_by p (Happening.Asked n q t owed question) = same s q p && is_for_set question
   asks_by p e = false
 
   -- by it a list of p is admitted

@@ -6,8 +6,11 @@ pub mod Origins
 pub mod Arrivals
 pub mod Digests
 pub mod Answers
+pub mod Meters
+pub mod Heads
 pub mod Actions
 pub mod Links
+pub mod Questions
 pub mod Frames
 pub mod Happenings
 pub mod Steps

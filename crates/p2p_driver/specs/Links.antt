@@ -1,15 +1,17 @@
 -- The links of a driver: peers with what is kept of the link of each, in the order of their keys.
 -- Moments and durations are nanoseconds.
-use Rattle.std.specs.Prelude.{ℕ, ◌≡◌, ◌≤◌, ◌+◌, ◌&&◌, nat_le, Bool, true, false, List, Option, Some}
-use Rattle.std.specs.Prelude.{None, option_map, unwrap_or, if◌then◌else◌, is_some, not}
+use Rattle.std.specs.Prelude.{ℕ, ◌≡◌, ◌≤◌, ◌+◌, ◌&&◌, max, min, nat_le, Bool, true, false, List}
+use Rattle.std.specs.Prelude.{Option, Some, None, option_map, unwrap_or, is_some, not}
+use Rattle.std.specs.Prelude.{if◌then◌else◌}
 use Rattle.std.specs.Duration.{as_nanos}
-use Rattle.std.specs.List.{sum_by, fold}
+use Rattle.std.specs.List.{sum_by, count_by, fold}
 use Rattle.std.specs.Map.{lookup, values_of}
 use Rattle.std.specs.BTreeMap.{is_at}
 use Rattle.std.specs.Option.{IsSomeAnd}
 use Rattle.std.specs.declared.cmp.Ordering.{Ordering}
 use Rattle.std.specs.declared.time.Duration.{Duration}
 use Rattle.p2p_driver.specs.Arrivals.{lesser_of}
+use Rattle.p2p_driver.specs.declared.links.Asked.{Asked}
 use Rattle.p2p_driver.specs.declared.links.Held.{Held}
 use Rattle.p2p_driver.specs.declared.links.Phase.{Phase}
 use Rattle.p2p_driver.specs.declared.links.Waiting.{Waiting}
@@ -42,6 +44,7 @@ link_with number since = record {
   heard = since;
   owed = 0;
   waiting = None;
+  asked = record { at = since; index = None; rounds = 0 };
 }
 
 -- the phase once the peer has greeted
@@ -64,9 +67,19 @@ hearing t owed waiting h = record h {
   waiting = waiting_in h.phase waiting;
 }
 
--- .. and has greeted
-abbrev pub opened : Duration → ℕ → Held → Held
-opened t owed h = record h { phase = greeted h.phase; heard = t; owed = owed; waiting = None }
+-- .. and has greeted: what is kept of its questions then
+abbrev pub opened : Duration → ℕ → Asked → Held → Held
+opened t owed asked h = record h {
+  phase = greeted h.phase;
+  heard = t;
+  owed = owed;
+  waiting = None;
+  asked = asked;
+}
+
+-- .. once its peer was asked: how many questions are owed then, and what is kept of them
+abbrev pub asking : ℕ → Asked → Held → Held
+asking owed asked h = record h { owed = owed; asked = asked }
 
 -- .. and once it was closed
 abbrev pub closed : Held → Held
@@ -103,14 +116,36 @@ due greeting silence h =
 abbrev pub is_late : ℕ → ℕ → ℕ → Held → Bool
 is_late greeting silence now h = is_timed h.phase && nat_le (due greeting silence h) now
 
--- the moment, or that by which the peer of a link has to be heard, if that is sooner
-abbrev pub sooner_of : ℕ → ℕ → Option ℕ → Held → Option ℕ
-sooner_of greeting silence next h =
-    if is_timed h.phase then Some (lesser_of next (due greeting silence h)) else next
+-- the peer has greeted, and the link isn't closed
+abbrev pub is_open : Phase → Bool
+is_open Greeting = false
+is_open Open = true
+is_open Closing = false
 
--- the least of the moment and those by which the peers of these links have to be heard
-abbrev pub least_due : ℕ → ℕ → Option ℕ → List Held → Option ℕ
-least_due greeting silence next held = fold (sooner_of greeting silence) next held
+-- when a peer is to be asked next: a tick after it was asked last, which takes some time
+abbrev pub ask_at : ℕ → Held → ℕ
+ask_at tick h = as_nanos h.asked.at + max tick 1
+
+-- a peer is to be asked: its link is open, and it is time
+abbrev pub is_to_ask : ℕ → ℕ → Held → Bool
+is_to_ask tick now h = is_open h.phase && nat_le (ask_at tick h) now
+
+-- how many of them are
+abbrev pub to_ask : {C : Type 0} → ℕ → ℕ → List (C × Held) → ℕ
+to_ask tick now links = count_by (is_to_ask tick now) (values_of links)
+
+-- when something is due of a link next: it is late, or its peer is to be asked
+abbrev pub next_of : ℕ → ℕ → ℕ → Held → ℕ
+next_of greeting silence tick h =
+    if is_open h.phase then min (due greeting silence h) (ask_at tick h) else due greeting silence h
+
+-- the moment, or that of a link, if that is sooner and the link isn't closed
+abbrev pub sooner_of : (Held → ℕ) → Option ℕ → Held → Option ℕ
+sooner_of moment next h = if is_timed h.phase then Some (lesser_of next (moment h)) else next
+
+-- the least of the moment and those of these links
+abbrev pub least_due : (Held → ℕ) → Option ℕ → List Held → Option ℕ
+least_due moment next held = fold (sooner_of moment) next held
 
 -- WHAT HOLDS OF ALL LINKS
 module _ {C : Type 0} (cmp : C → C → Ordering) (links : List (C × Held)) where
@@ -130,15 +165,13 @@ module _ {C : Type 0} (cmp : C → C → Ordering) (links : List (C × Held)) wh
     pub back : (q : C) (h : Held) → link_of cmp links q ≡ Some h →
         IsSomeAnd (at h.number) (λ p. is_at (cmp p) q ≡ true)
 
--- WHO IS LATE
-module _ {C : Type 0} (cmp : C → C → Ordering) (greeting silence : ℕ)
-    (links : List (C × Held)) where
-  -- the least moment by which a peer has to be heard, if there is one
+-- the least of the moments of the links that aren't closed, if there is one
+module _ {C : Type 0} (cmp : C → C → Ordering) (moment : Held → ℕ) (links : List (C × Held)) where
   abbrev pub IsLeastDue : Option ℕ → Type 0
   IsLeastDue None = (q : C) (h : Held) → link_of cmp links q ≡ Some h →
       is_timed h.phase ≡ false
   IsLeastDue (Some least) =
       ((q : C) (h : Held) → link_of cmp links q ≡ Some h → is_timed h.phase ≡ true →
-      least ≤ due greeting silence h)
+      least ≤ moment h)
       × ((q : C) × (h : Held) × (link_of cmp links q ≡ Some h)
-      × (is_timed h.phase ≡ true) × (due greeting silence h ≡ least))
+      × (is_timed h.phase ≡ true) × (moment h ≡ least))

@@ -8,16 +8,18 @@ use Rattle.p2p_tracker.specs.Calls.Call.{Track, Block}
 use Rattle.p2p_tracker.specs.Answers.{IsTrackAnswer, may_listen_at, may_release, was_taken}
 use Rattle.p2p_tracker.specs.Answers.{may_connect, was_blocked}
 use Rattle.p2p_directory.specs.Run.{event_of, world_after}
-use Rattle.p2p_directory.specs.Nodes.{NodeView, Made, NodeStandsAt, AtEach, standing_in}
+use Rattle.p2p_directory.specs.Nodes.{NodeView, Made, NodeStandsAt, AtEach}
 use Rattle.p2p_directory.specs.Received.{Wire}
 use Rattle.std.specs.BTreeMap.{is_at}
 use Rattle.p2p_driver.specs.declared.actions.Why.{Why}
 use Rattle.p2p_driver.specs.declared.actions.Why.TheVariants as why
 use Rattle.std.specs.Duration.{as_nanos}
 use Rattle.std.specs.declared.time.Duration.{Duration}
-use Rattle.p2p_driver.specs.Frames.{Outcome, first_question}
+use Rattle.p2p_driver.specs.Frames.{Outcome}
+use Rattle.p2p_driver.specs.Questions.{IsQuestion}
 use Rattle.p2p_driver.specs.Happenings.{calls_for}
 use Rattle.p2p_driver.specs.Links.{link_of}
+use Rattle.p2p_driver.specs.declared.links.Asked.{Asked}
 use Rattle.p2p_driver.specs.declared.links.Held.{Held}
 use Rattle.p2p_driver.specs.declared.pace.Pace.{Pace}
 
@@ -26,15 +28,15 @@ abbrev pub IsBlock : {C S : Type 0} → Made C S → List (Call C S) → C → �
 IsBlock m calls p t taken = taken ≡ was_blocked (event_of m.directory calls (Block p t))
 
 -- what is done at t with what comes of a frame of p, after these calls: a peer that has greeted is
--- asked first, or a block is taken, if memory is there
-abbrev pub IsDone : {C S : Type 0} → Wire C S → Made C S → List (Call C S) → C → Duration →
-    Outcome C S → Type 0
-IsDone wire m calls p t (Outcome.Greets info question) = IfSome question (λ frame.
-    frame ≡ first_question wire (standing_in m wire (world_after m.directory
-    (calls_for p t (Outcome.Greets info question) ++ calls))))
-IsDone wire m calls p t (Outcome.Breaks breach blocked) =
+-- asked, or a block is taken, if memory is there
+abbrev pub IsDone : {C S : Type 0} → Wire C S → Made C S → ℕ → Asked → List (Call C S) → C →
+    Duration → Outcome C S → Type 0
+IsDone wire m refresh asked calls p t (Outcome.Greets info question) =
+    IfSome question (IsQuestion wire m (world_after m.directory
+    (calls_for p t (Outcome.Greets info question) ++ calls)) refresh asked)
+IsDone wire m refresh asked calls p t (Outcome.Breaks breach blocked) =
     IfSome blocked (IsBlock m calls p (as_nanos t))
-IsDone wire m calls p t outcome = Unit {0}
+IsDone wire m refresh asked calls p t outcome = Unit {0}
 
 module _ {C S : Type 0} (cmp : C → C → Ordering) where
   -- wherever a node stood, it stands after these calls too, the newest first

@@ -1,21 +1,26 @@
 -- Timers: what is late, and what a driver does of it when time passes.
-use Rattle.std.specs.Prelude.{ℕ, ◌≡◌, ◌+◌, ◌<◌, max, min, false, List, [], ◌∷◌, ◌++◌, length, find}
-use Rattle.std.specs.Prelude.{Option, Some, None, option_map}
+use Rattle.std.specs.Prelude.{ℕ, ◌≡◌, ◌+◌, ◌<◌, max, min, Bool, true, false, List, [], ◌∷◌, ◌++◌}
+use Rattle.std.specs.Prelude.{length, find, Option, Some, None, option_map, is_some}
+use Rattle.std.specs.Prelude.{Result}
+use Rattle.std.specs.Result.{is_ok}
+use Rattle.std.specs.List.{list_all}
 use Rattle.std.specs.Duration.{as_nanos, max_nanos}
+use Rattle.std.specs.declared.alloc.AllocError.{AllocError}
 use Rattle.std.specs.declared.cmp.Ordering.{Ordering}
 use Rattle.std.specs.declared.time.Duration.{Duration}
 use Rattle.p2p_tracker.specs.Directory.{dial_moment_in}
 use Rattle.p2p_tracker.specs.Lists.{IsLeastOf}
-use Rattle.p2p_tracker.specs.Seen.{unblock_of}
+use Rattle.p2p_tracker.specs.Seen.{unblock_of, cooldown_of}
 use Rattle.p2p_directory.specs.Received.{Wire}
 use Rattle.p2p_directory.specs.declared.node.setup.Setup.{Setup}
 use Rattle.p2p_driver.specs.Arrivals.{has_number, deadline_of, IsLeastDeadline}
 use Rattle.p2p_driver.specs.Drivers.{DriverView, DriverStandsAt, Does, base_of}
 use Rattle.p2p_driver.specs.Happenings.{Happening}
-use Rattle.p2p_driver.specs.Links.{link_of, is_late, needs, IsLeastDue}
+use Rattle.p2p_driver.specs.Links.{link_of, is_late, needs, is_to_ask, to_ask, next_of, IsLeastDue}
 use Rattle.p2p_driver.specs.declared.arrivals.Arrival.{Arrival}
 use Rattle.p2p_driver.specs.declared.links.Held.{Held}
 use Rattle.p2p_driver.specs.declared.pace.Pace.{Pace}
+use Rattle.p2p_driver.specs.declared.questions.Question.{Question}
 
 module _ {C S : Type 0} where
   -- by it a stream or a link is closed that is late at t
@@ -29,6 +34,21 @@ module _ {C S : Type 0} where
   AreLateAt t [] = Unit {0}
   AreLateAt t (e ∷ es) = IsLateAt t e × AreLateAt t es
 
+  -- by it a peer is asked that is to be asked at t
+  abbrev pub IsAskedAt : Duration → Happening C S → Type 0
+  IsAskedAt t (Happening.Asked n p at owed question) = at ≡ t
+  IsAskedAt t _ = ⊥
+
+  -- .. by each of them
+  abbrev pub AreAskedAt : Duration → List (Happening C S) → Type 0
+  AreAskedAt t [] = Unit {0}
+  AreAskedAt t (e ∷ es) = IsAskedAt t e × AreAskedAt t es
+
+  -- memory was there for it
+  abbrev pub was_asked : Happening C S → Bool
+  was_asked (Happening.Asked n p at owed question) = is_some question
+  was_asked _ = true
+
   -- how much there is that may be late: streams, and what links need
   abbrev pub pending : DriverView C S → ℕ
   pending v = length v.arrivals + needs v.links
@@ -41,6 +61,16 @@ module _ {C S : Type 0} (cmp : C → C → Ordering) where
     pub links : (p : C) (held : Held) → link_of cmp v.links p ≡ Some held →
         is_late (as_nanos v.pace.greeting) (as_nanos v.pace.silence) t held ≡ false
 
+  -- no peer is to be asked at t
+  abbrev pub NoneToAsk : ℕ → DriverView C S → Type 0
+  NoneToAsk t v = (p : C) (held : Held) → link_of cmp v.links p ≡ Some held →
+      is_to_ask (as_nanos v.pace.tick) t held ≡ false
+
+  -- .. none of these is due
+  pub record NoneDue (t : ℕ) (v : DriverView C S) : Type 0 where
+    pub late : NoneLate t v
+    pub to_ask : NoneToAsk t v
+
 -- the earlier of two moments, if there are some
 abbrev pub earlier : Option ℕ → Option ℕ → Option ℕ
 earlier None other = other
@@ -51,8 +81,8 @@ earlier (Some m) (Some n) = Some (min m n)
 abbrev pub held_moment : Option ℕ → Option ℕ
 held_moment moment = option_map (λ n. min n max_nanos) moment
 
--- the first moment at which something is due: a stream or a link is late, or a block or a cooldown
--- ends
+-- the first moment at which something is due: a stream or a link is late, a peer is to be asked, or
+-- a block or a cooldown ends
 pub record IsNextTimeout {C S : Type 0} (cmp : C → C → Ordering) (v : DriverView C S)
     (next : Option ℕ) : Type 0 where
   pub stream : Option ℕ
@@ -61,11 +91,22 @@ pub record IsNextTimeout {C S : Type 0} (cmp : C → C → Ordering) (v : Driver
   pub cooldown : Option ℕ
   pub streams :
       IsLeastDeadline (as_nanos v.pace.first) (as_nanos v.pace.handshake) v.arrivals stream
-  pub links : IsLeastDue cmp (as_nanos v.pace.greeting) (as_nanos v.pace.silence) v.links link
+  pub links : IsLeastDue cmp (next_of (as_nanos v.pace.greeting) (as_nanos v.pace.silence)
+      (as_nanos v.pace.tick)) v.links link
   pub blocks : IsLeastOf (unblock_of cmp v.node.directory) block
   pub cooldowns : IsLeastOf (dial_moment_in cmp v.node.directory) cooldown
   pub next_is : next ≡
       earlier (earlier (held_moment stream) (held_moment link)) (earlier block cooldown)
+
+-- but for the time, all is as it was: a driver and what it asked of its node, of which no block and
+-- no cooldown ended
+pub record IsAsBefore {C S : Type 0} (cmp : C → C → Ordering) (t : ℕ) (v v2 : DriverView C S) :
+    Type 0 where
+  pub rest : v2 ≡ record v { node = v2.node; latest = t }
+  pub blocks : (p : C) →
+      unblock_of cmp v2.node.directory p ≡ unblock_of cmp v.node.directory p
+  pub cooldowns : (p : C) →
+      cooldown_of cmp v2.node.directory p ≡ cooldown_of cmp v.node.directory p
 
 module _ {C S : Type 0} (cmp : C → C → Ordering) (wire : Wire C S) where
   -- wherever it stood, it stands after these happenings too, the newest first
@@ -89,11 +130,38 @@ module _ {C S : Type 0} (cmp : C → C → Ordering) (wire : Wire C S) where
     pub does : DoesAll happenings v v2
     pub latest : v2.latest ≡ v.latest
 
+  -- a peer is asked that is to be asked at t, at once: whether memory was there
+  pub record AsksOne (t : Duration) (asked : Bool) (v v2 : DriverView C S) : Type 0 where
+    pub number : ℕ
+    pub peer : C
+    pub owed : ℕ
+    pub question : Option Question
+    pub asked_is : is_some question ≡ asked
+    pub does : Does cmp wire (Happening.Asked number peer t owed question) v v2
+    pub latest : v2.latest ≡ v.latest
+    pub pace : v2.pace ≡ v.pace
+    pub late : NoneLate cmp (as_nanos t) v → NoneLate cmp (as_nanos t) v2
+    pub fewer : let tick = as_nanos v.pace.tick in
+        to_ask tick (as_nanos t) v2.links + 1 ≡ to_ask tick (as_nanos t) v.links
+
+  -- some are asked that are to be asked at t, at once: whether memory was there for all
+  pub record AsksAll (t : Duration) (result : Result (Unit {0}) AllocError)
+      (v v2 : DriverView C S) : Type 0 where
+    pub happenings : List (Happening C S)
+    pub are_asked : AreAskedAt t happenings
+    pub all : list_all was_asked happenings ≡ is_ok result
+    pub does : DoesAll happenings v v2
+    pub latest : v2.latest ≡ v.latest
+
   -- at the later of the latest time and this one, what ends by then ends: cooldowns and blocks.
-  -- Then some that are late are closed
-  pub record TimesOut (now : ℕ) (v v2 : DriverView C S) : Type 0 where
+  -- Then some that are late are closed, and then some are asked: whether memory was there for all
+  pub record TimesOut (now : ℕ) (result : Result (Unit {0}) AllocError)
+      (v v2 : DriverView C S) : Type 0 where
     pub time : Duration
     pub time_is : as_nanos time ≡ max v.latest now
     pub late : List (Happening C S)
     pub are_late : AreLateAt time late
-    pub does : DoesAll (late ++ Happening.Passed time ∷ []) v v2
+    pub asked : List (Happening C S)
+    pub are_asked : AreAskedAt time asked
+    pub all : list_all was_asked asked ≡ is_ok result
+    pub does : DoesAll (asked ++ (late ++ Happening.Passed time ∷ [])) v v2

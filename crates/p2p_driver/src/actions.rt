@@ -2,7 +2,9 @@
 
 ghost use Rattle.std.specs.Prelude.{ℕ, ◌≡◌, ◌≤◌, ◌<◌, ◌+◌, ◌-◌, [], ◌∷◌, ◌++◌, length, None};
 ghost use Rattle.std.specs.Prelude.{OnOk, OnErr};
+ghost use Rattle.std.specs.List.{count_by};
 ghost use Rattle.std.specs.Option.{option_to_list};
+ghost use Rattle.p2p_driver.specs.Actions.{is_of_link, is_told_of};
 
 use crate::link::Link;
 use bytes::Bytes;
@@ -170,10 +172,53 @@ impl<C> Actions<C> {
         self.waiting.pop_front()
     }
 
+    /// How many actions wait that are of a link: what is sent on it, its close, and what is told of
+    /// it. It doesn't allocate.
+    ///
+    /// # Cost
+    ///
+    /// One pass over the actions that wait.
+    pub fn count_of(&self, link: Link) -> usize
+        ensures { result ≡ count_by (is_of_link link.0) self.now.items }
+    {
+        self.waiting
+            .iter()
+            .filter(|action| is_of(action, link))
+            .count()
+    }
+
     /// How many actions wait.
     pub fn len(&self) -> usize
         ensures { result ≡ length self.now.items }
     {
         self.waiting.len()
+    }
+}
+
+// Whether an action is of a link.
+fn is_of<C>(action: &Action<C>, link: Link) -> bool
+    ensures { result ≡ is_of_link link.0 action.now }
+{
+    match action {
+        Action::Send {
+            link: other,
+            frame: _,
+        } => other.0 == link.0,
+        Action::Close {
+            link: other,
+            why: _,
+        } => other.0 == link.0,
+        Action::Told(event) => is_told_of(event, link),
+    }
+}
+
+// Whether it is told of a link.
+fn is_told_of<C>(event: &Event<C>, link: Link) -> bool
+    ensures { result ≡ is_told_of link.0 event.now }
+{
+    match event {
+        Event::Up(other, _) => other.0 == link.0,
+        Event::Down(other, _, _) => other.0 == link.0,
+        Event::Blocked(_, _) => false,
     }
 }

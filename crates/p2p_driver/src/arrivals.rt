@@ -93,6 +93,13 @@ impl<K: Copy> Arrivals<K> {
             .count()
     }
 
+    /// How many streams there are. It doesn't allocate.
+    pub fn len(&self) -> usize
+        ensures { result ≡ length self.now }
+    {
+        self.streams.len()
+    }
+
     /// Takes a stream that came from the origin at the steady time `now`, under a number above all
     /// others, if there is room for it. Returns whether there is, and the number of the stream that
     /// gives way to it, if one does: that one is no longer kept.

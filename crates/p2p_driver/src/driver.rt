@@ -32,9 +32,11 @@ use std::time::Duration;
 
 mod application;
 mod frames;
+mod queries;
 mod sets;
 mod timers;
 
+pub use crate::driver::queries::Counts;
 pub use crate::driver::sets::Tracked;
 
 /// A driver of a node: what a program with sockets, the host, decides about streams, their proofs
@@ -292,13 +294,6 @@ impl<C: PublicKey> Driver<C> {
             AnswersNext C.cmp wire result self.old self.new }
     {
         self.actions.pop()
-    }
-
-    /// The driver's node, for queries.
-    pub fn node(&self) -> &Node<C>
-        ensures { record result.now { slots = [] } ≡ self.now.node }
-    {
-        &self.node
     }
 
     /// Ends the driver: all reservations are released. It returns the directory.

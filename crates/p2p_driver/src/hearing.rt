@@ -1,22 +1,28 @@
 //! What becomes of a link when its peer is heard, and what is said then.
 
 ghost use Rattle.std.specs.Prelude.{◌≡◌, ◌≤◌, ◌+◌, ◌++◌, [], ◌∷◌};
-ghost use Rattle.std.specs.Prelude.{ℕ, List, Option, None, Some, IfSome};
-ghost use Rattle.std.specs.Prelude.{min, false};
+ghost use Rattle.std.specs.Prelude.{ℕ, Option, IfSome, is_some, option_map, length};
+ghost use Rattle.std.specs.Prelude.{true, false, if◌then◌else◌};
+ghost use Rattle.std.specs.BTreeMap.{is_at};
 ghost use Rattle.std.specs.Duration.{as_nanos};
+ghost use Rattle.std.specs.Option.{IsSomeAnd};
 ghost use Rattle.p2p_discovery.specs.declared.discovery.Info.{Info};
 ghost use Rattle.p2p_tracker.specs.Calls.Call.{Connect};
-ghost use Rattle.p2p_driver.specs.Links.{needs};
+ghost use Rattle.p2p_driver.specs.Links.{link_of, needs, asking, is_to_ask, to_ask};
 ghost use Rattle.p2p_driver.specs.Frames.{owed_after};
 ghost use Rattle.p2p_driver.specs.Frames.Outcome.{Breaks, Greets, IsEarly};
-ghost use Rattle.p2p_driver.specs.declared.links.Phase.TheVariants as Phase;
-ghost use Rattle.p2p_driver.specs.Hearing.{Follows, IsFirstQuestion};
+ghost use Rattle.p2p_driver.specs.Happenings.{asking_on};
+ghost use Rattle.p2p_driver.specs.Hearing.{Follows};
+ghost use Rattle.p2p_driver.specs.Questions.{asked_after, owed_with, IsNextQuestion};
 ghost use Rattle.p2p_driver.specs.Steps.{IsBlocked, Makes, MakesFor, MayConnect};
+ghost use Rattle.p2p_driver.specs.declared.links.Phase.TheVariants as Phase;
+ghost use Rattle.p2p_driver.specs.declared.questions.Question.{Question};
 
 use crate::actions::{Action, Actions, Breach, Event, Why};
 use crate::link::Link;
-use crate::links::Links;
-use crate::{connections, serving, steps};
+use crate::links::{Asked, Links};
+use crate::pace::Pace;
+use crate::{connections, questions, steps};
 use p2p_directory::node::Node;
 use p2p_directory::node::wire::Frames;
 use p2p_discovery::codec::PublicKey;
@@ -73,42 +79,85 @@ pub(crate) fn greet<C: PublicKey>(
     node: &mut Node<C>,
     links: &mut Links<C>,
     actions: &mut Actions<C>,
-    most: usize,
+    pace: &Pace,
+    asked: Asked,
     owed: usize,
     peer: &C,
     number: u64,
     now: Duration,
 )
     requires may { MayConnect C.cmp peer.now node.old }
+    requires asked { IsSomeAnd (link_of C.cmp links.old peer.now) (λ held. held.asked ≡ asked) }
     requires fit { needs links.old + 3 ≤ actions.old.room }
     ensures made { Makes C.cmp (Connect peer.now false ∷ []) node.old node.new }
-    ensures greets { (info : Info C C.Signature) → (question : Option (List ℕ))
-        × IfSome question (λ frame. IsFirstQuestion C.cmp ⟦<C as Frames>⟧.wire frame node.new)
-        × Follows C.cmp number peer.now now
-        (owed_after Phase.Greeting (Greets info question) most owed) (Greets info question)
-        links.old links.new actions.old.items actions.new.items }
+    ensures greets { (info : Info C C.Signature) → (question : Option Question)
+        × IfSome question (λ question. IsNextQuestion C.cmp ⟦<C as Frames>⟧.wire
+        pace.now.refresh asked question node.new) × Follows C.cmp number peer.now now
+        (owed_after Phase.Greeting (Greets info question) pace.now.owed owed)
+        (Greets info question) links.old links.new actions.old.items actions.new.items }
     ensures room { needs links.new + actions.old.room ≤ actions.new.room + needs links.old + 3 }
 {
     steps::connect(node, peer);
     actions.push(Action::Told(Event::Up(Link(number), *peer)));
-    match serving::first_question(node) {
-        Some(frame) => {
-            links.open(peer, now, more_owed(owed, most));
+    match questions::next(node, &asked, pace.refresh) {
+        Some(question) => {
+            let owed = question.owed(owed, pace.owed);
+            links.open(peer, now, owed, question.after(&asked, now));
             actions.push(Action::Send {
                 link: Link(number),
-                frame,
+                frame: question.frame,
             });
         }
         None => {
-            links.open(peer, now, owed);
+            links.open(peer, now, owed, questions::tried(&asked, now));
             actions.give_back(1);
         }
     }
 }
 
-// How many questions are owed once one more is asked, at most so many.
-fn more_owed(owed: usize, most: usize) -> usize
-    ensures { result ≡ min (owed + 1) most }
+// A question is due for the peer of an open link: it is asked, if memory suffices. It returns
+// whether it was. There is room for one action more than links need.
+pub(crate) fn ask<C: PublicKey>(
+    node: &Node<C>,
+    links: &mut Links<C>,
+    actions: &mut Actions<C>,
+    pace: &Pace,
+    asked: Asked,
+    owed: usize,
+    peer: &C,
+    number: u64,
+    now: Duration,
+) -> bool
+    requires fit { needs links.old + 1 ≤ actions.old.room }
+    ensures asks { (question : Option Question) × (is_some question ≡ result)
+        × IfSome question (λ question. IsNextQuestion C.cmp ⟦<C as Frames>⟧.wire
+        pace.now.refresh asked question node.now)
+        × ((q : C) → link_of C.cmp links.new q ≡ (if is_at (C.cmp peer.now) q
+        then option_map (asking (owed_with question pace.now.owed owed)
+        (asked_after now question asked)) (link_of C.cmp links.old q)
+        else link_of C.cmp links.old q))
+        × (actions.new.items ≡ actions.old.items ++ asking_on number question) }
+    ensures count { length links.new ≡ length links.old }
+    ensures needs { needs links.new ≡ needs links.old }
+    ensures room { actions.new.room + 1 ≡ actions.old.room }
+    ensures fewer { (tick : ℕ) → let t = as_nanos now in
+        IsSomeAnd (link_of C.cmp links.old peer.now) (λ h. is_to_ask tick t h ≡ true) →
+        to_ask tick t links.new + 1 ≡ to_ask tick t links.old }
 {
-    if owed < most { owed + 1 } else { most }
+    match questions::next(node, &asked, pace.refresh) {
+        Some(question) => {
+            let owed = question.owed(owed, pace.owed);
+            links.ask(peer, owed, question.after(&asked, now));
+            actions.push(Action::Send {
+                link: Link(number),
+                frame: question.frame,
+            });
+            true
+        }
+        None => {
+            links.ask(peer, owed, questions::tried(&asked, now));
+            actions.give_back(1);
+            false
+        }
+    }
 }

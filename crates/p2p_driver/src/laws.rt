@@ -1,7 +1,7 @@
 //! Laws of drivers, over what they did.
 
 ghost use Rattle.std.specs.Prelude.{ℕ, ◌≡◌, ◌≤◌, ◌&&◌, not, if◌then◌else◌, true, List, ◌∷◌, ◌++◌};
-ghost use Rattle.std.specs.Prelude.{◌<◌, ◌+◌, ◌*◌, false, length, map, Some, None, is_some};
+ghost use Rattle.std.specs.Prelude.{◌<◌, ◌+◌, ◌-◌, ◌*◌, false, length, map, Some, None, is_some};
 ghost use Rattle.std.specs.Prelude.{option_map};
 ghost use Rattle.std.specs.Duration.{as_nanos};
 ghost use Rattle.std.specs.Int.NonZero.{non_zero_u32_get};
@@ -20,18 +20,19 @@ ghost use Rattle.p2p_driver.specs.Arrivals.{is_of};
 ghost use Rattle.p2p_driver.specs.Happenings.{Happening, calls_of, latest_at, link_count};
 ghost use Rattle.p2p_driver.specs.Happenings.{next_at, stream_at, said, says_by, taken};
 ghost use Rattle.p2p_driver.specs.Happenings.{answered_in};
-ghost use Rattle.p2p_driver.specs.Happenings.Happening.{SetCame, Claimed, Refused, Heard};
+ghost use Rattle.p2p_driver.specs.Happenings.Happening.{Arrived, SetCame, Claimed, Refused, Heard};
 ghost use Rattle.p2p_driver.specs.Frames.{Cause, Outcome};
 ghost use Rattle.p2p_driver.specs.Links.{link_of, closed};
-ghost use Rattle.p2p_driver.specs.Laws.{Begins, closes, is_served, HasGreeted};
+ghost use Rattle.p2p_driver.specs.Laws.{Begins, closes, is_served, is_set, HasGreeted};
 ghost use Rattle.p2p_driver.specs.Laws.{has_greeted, cut_by, Blames, bare, asked_on, lists_on};
 ghost use Rattle.p2p_driver.specs.Drivers.{DriverView, Base, DriverStandsAt, AreRight, link};
 ghost use Rattle.p2p_driver.specs.Drivers.{IsRight, may_come, no_proof};
+ghost use Rattle.p2p_driver.specs.declared.arrivals.Room.TheVariants as Room;
 ghost use Rattle.p2p_driver.specs.Answers.{times_of};
 ghost use Rattle.p2p_driver.specs.Rates.{count_in};
 
 use crate::actions::Why;
-use crate::links::{Held, Phase};
+use crate::links::{Held, Phase, Waiting};
 use crate::origin::Origin;
 use p2p_directory::node::wire::Frames;
 use p2p_discovery::codec::PublicKey;
@@ -150,6 +151,14 @@ pub fn budget<C: PublicKey>()
         count_by (is_of origin) v.arrivals ≤ b.pace.by_address }
 {}
 
+/// By a law of drivers, a stream that gives way to another one came longer ago than `grace`.
+pub fn grace_is_kept<C: PublicKey>()
+    ensures { (b : Base C C.Signature) (h : List (Happening C C.Signature)) (n : ℕ)
+        (origin : Origin) (t : Duration) (m : ℕ) → IsRight b h (Arrived n origin t (Room.Of m)) →
+        IsSomeAnd (stream_at m h)
+        (λ stream. as_nanos b.pace.grace < as_nanos t - as_nanos stream.came) }
+{}
+
 /// By a law of drivers, a claim that goes on is kept: the stream becomes a link if it is proved at
 /// once to be that peer's, unless an allocation fails. One that is closed as `NotGranted` wouldn't.
 /// One that is closed as `Crowded` would, but its rate has no more.
@@ -229,6 +238,36 @@ pub fn lists_are_asked<C: PublicKey>()
     ensures { let wire = ⟦<C as Frames>⟧.wire in (b : Base C C.Signature) →
         b.made.directory.cmp ≡ C.cmp → b.wire ≡ wire → (h : List (Happening C C.Signature)) →
         AreRight b h → (p : C) → let s = b.made.directory in lists_on s p h ≤ asked_on s p h }
+{}
+
+/// By a law of drivers, few signatures are verified of what a peer sends on its link: one of its
+/// greeting, and of a list at most as many as the node takes infos at a time, its
+/// `peer_gossip_max_count`.
+pub fn few_signatures<C: PublicKey>()
+    ensures greeting { (b : Base C C.Signature) (h : List (Happening C C.Signature)) (n : ℕ) (p : C)
+        (t : Duration) (owed : ℕ) (cause : Cause) (w : Waiting) →
+        IsRight b h (Heard n p t owed cause (Outcome.Waits w)) →
+        IsSomeAnd (link b p h) (λ held. held.phase ≡ Phase.Greeting) → w.count ≡ 1 }
+    ensures list { (b : Base C C.Signature) (h : List (Happening C C.Signature)) (n : ℕ) (p : C)
+        (t : Duration) (owed : ℕ) (cause : Cause) (w : Waiting) →
+        IsRight b h (Heard n p t owed cause (Outcome.Waits w)) →
+        IsSomeAnd (link b p h) (λ held. held.phase ≡ Phase.Open) →
+        w.count ≤ b.made.verifier.greatest_count }
+{}
+
+/// By a law of drivers, little is said at a time.
+///
+/// - A set that is accepted says at most two actions for each link.
+/// - Each other happening says at most three.
+pub fn little_is_said<C: PublicKey>()
+    ensures sets { (b : Base C C.Signature) → b.made.directory.cmp ≡ C.cmp →
+        (h : List (Happening C C.Signature)) (v : DriverView C C.Signature) →
+        DriverStandsAt b h v → (t : Duration) (index : ℕ) (primary secondary torn : List C) →
+        let e = SetCame t index primary secondary torn in
+        length (says_by b.made.directory b.greeting h e) ≤ 2 * length v.links }
+    ensures others { (b : Base C C.Signature) (h : List (Happening C C.Signature))
+        (e : Happening C C.Signature) → is_set e ≡ false →
+        length (says_by b.made.directory b.greeting h e) ≤ 3 }
 {}
 
 /// By a law of drivers, the host takes what was said, all of it and in order.

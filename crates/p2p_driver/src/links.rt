@@ -1,15 +1,16 @@
 //! The links: the peers whose streams are proved.
 
-ghost use Rattle.std.specs.Prelude.{◌≡◌, ◌≤◌, ◌+◌, [], ℕ, length, true, false, Some, None};
+ghost use Rattle.std.specs.Prelude.{◌≡◌, ◌≤◌, ◌<◌, ◌+◌, [], ℕ, length, true, false, Some, None};
 ghost use Rattle.std.specs.Prelude.{OnOk, OnErr, IfSome, IfNone, if◌then◌else◌, is_some};
-ghost use Rattle.std.specs.Prelude.{option_map, find};
+ghost use Rattle.std.specs.Prelude.{option_map, find, max};
 ghost use Rattle.std.specs.Duration.{as_nanos};
 ghost use Rattle.std.specs.List.Sorted.{IsStrictlySortedBy};
 ghost use Rattle.std.specs.Map.{keys_of, values_of, remove_entry, set_value};
 ghost use Rattle.std.specs.Option.{IsSomeAnd};
 ghost use Rattle.std.specs.BTreeMap.{is_at, get, insert_entry};
 ghost use Rattle.p2p_driver.specs.Links.{link_of, need_at, needs, link_with, one_if_greeting};
-ghost use Rattle.p2p_driver.specs.Links.{opened, hearing, closed, is_ungreeted, is_timed};
+ghost use Rattle.p2p_driver.specs.Links.{opened, hearing, asking, closed, is_ungreeted, is_timed};
+ghost use Rattle.p2p_driver.specs.Links.{is_open, ask_at, is_to_ask, to_ask, next_of};
 ghost use Rattle.p2p_driver.specs.Links.{due, is_late, sooner_of, least_due};
 ghost use Rattle.p2p_driver.specs.Links.{AreNumbered, AreAlike, IsLeastDue};
 ghost use Rattle.p2p_driver.specs.declared.links.Held.{Held};
@@ -44,6 +45,18 @@ pub struct Waiting {
     pub count: usize,
 }
 
+/// What is kept of the questions that a peer is asked on its link.
+#[derive(Clone, Copy, Debug, PartialEq, Eq)]
+pub struct Asked {
+    /// When a question was due last, a steady time: it was asked then, unless an allocation failed.
+    /// At first, when the peer's key was proved.
+    pub at: Duration,
+    /// The index of the set that was asked for last, if one was.
+    pub index: Option<u64>,
+    /// How often the newest set was asked for.
+    pub rounds: u64,
+}
+
 /// What is kept of a link.
 #[derive(Debug, Drop)]
 pub struct Held {
@@ -59,12 +72,14 @@ pub struct Held {
     pub owed: usize,
     /// The frame that waits on it, if one does.
     pub waiting: Option<Waiting>,
+    /// The questions that its peer is asked.
+    pub asked: Asked,
 }
 
 impl Held {
     // What is kept of the link once its peer has greeted, with so many questions.
-    fn opened(&self, now: Duration, owed: usize) -> Held
-        ensures { result ≡ opened now owed self.now }
+    fn opened(&self, now: Duration, owed: usize, asked: Asked) -> Held
+        ensures { result ≡ opened now owed asked self.now }
     {
         let phase = match self.phase {
             Phase::Greeting => Phase::Open,
@@ -77,6 +92,7 @@ impl Held {
             heard: now,
             owed,
             waiting: None,
+            asked,
         }
     }
 
@@ -95,6 +111,7 @@ impl Held {
             heard: now,
             owed,
             waiting,
+            asked: self.asked,
         }
     }
 
@@ -109,6 +126,7 @@ impl Held {
             heard: self.heard,
             owed: self.owed,
             waiting: None,
+            asked: self.asked,
         }
     }
 
@@ -134,6 +152,41 @@ impl Held {
             after(self.since, greeting)
         } else {
             after(self.heard, silence)
+        }
+    }
+
+    // Whether the peer has greeted, and its link isn't closed.
+    fn is_open(&self) -> bool
+        ensures { result ≡ is_open self.now.phase }
+    {
+        self.phase == Phase::Open
+    }
+
+    // When the peer is to be asked next, in nanoseconds: a tick later, which takes some time.
+    fn ask_at(&self, tick: Duration) -> u128
+        ensures { result ≡ ask_at (as_nanos tick) self.now }
+    {
+        let shortest = Duration::from_nanos(1);
+        after(self.asked.at, tick).max(after(self.asked.at, shortest))
+    }
+
+    // Whether the peer is to be asked.
+    fn is_to_ask(&self, tick: Duration, now: Duration) -> bool
+        ensures { result ≡ is_to_ask (as_nanos tick) (as_nanos now) self.now }
+    {
+        self.is_open() && self.ask_at(tick) <= now.as_nanos()
+    }
+
+    // When something is due of the link next, in nanoseconds.
+    fn next(&self, greeting: Duration, silence: Duration, tick: Duration) -> u128
+        ensures { result
+            ≡ next_of (as_nanos greeting) (as_nanos silence) (as_nanos tick) self.now }
+    {
+        let due = self.due(greeting, silence);
+        if self.is_open() {
+            due.min(self.ask_at(tick))
+        } else {
+            due
         }
     }
 
@@ -267,6 +320,11 @@ impl<C: Ord + Copy> Links<C> {
             heard: since,
             owed: 0,
             waiting: None,
+            asked: Asked {
+                at: since,
+                index: None,
+                rounds: 0,
+            },
         };
         if let Err(failed) = insert(&mut self.of_peers, peer, held) {
             let _peer = self.peers.remove(&number);
@@ -275,25 +333,44 @@ impl<C: Ord + Copy> Links<C> {
         Ok(())
     }
 
-    /// Notes that the peer has greeted, and how many questions wait for their replies now:
-    /// its link is open, if it has one that isn't closed, and nothing waits on it. All other links
-    /// stay. It doesn't allocate.
+    /// Notes that the peer has greeted, how many questions wait for their replies now, and what is
+    /// kept of its questions: its link is open, if it has one that isn't closed, and nothing waits
+    /// on it. All other links stay. It doesn't allocate.
     ///
     /// # Cost
     ///
     /// Two searches among the links.
-    pub fn open(&mut self, peer: &C, now: Duration, owed: usize)
+    pub fn open(&mut self, peer: &C, now: Duration, owed: usize, asked: Asked)
         ensures links { (q : C) → link_of C.cmp self.new q ≡ (if is_at (C.cmp peer.now) q
-            then option_map (opened now owed) (link_of C.cmp self.old q)
+            then option_map (opened now owed asked) (link_of C.cmp self.old q)
             else link_of C.cmp self.old q) }
         ensures count { length self.new ≡ length self.old }
         ensures needs { needs self.new ≡
             needs self.old + one_if_greeting (link_of C.cmp self.old peer.now) }
     {
         if let Some(held) = self.of_peers.get(peer) {
-            let opened = held.opened(now, owed);
+            let opened = held.opened(now, owed, asked);
             write(&mut self.of_peers, peer, opened);
         }
+    }
+
+    /// Notes that the peer was asked, if it has a link: how many questions wait for their replies
+    /// now, and what is kept of its questions. All other links stay. It doesn't allocate.
+    ///
+    /// # Cost
+    ///
+    /// Two searches among the links.
+    pub fn ask(&mut self, peer: &C, owed: usize, asked: Asked)
+        ensures links { (q : C) → link_of C.cmp self.new q ≡ (if is_at (C.cmp peer.now) q
+            then option_map (asking owed asked) (link_of C.cmp self.old q)
+            else link_of C.cmp self.old q) }
+        ensures count { length self.new ≡ length self.old }
+        ensures needs { needs self.new ≡ needs self.old }
+        ensures fewer { (tick now : ℕ) → now < as_nanos asked.at + max tick 1 →
+            IsSomeAnd (link_of C.cmp self.old peer.now) (λ h. is_to_ask tick now h ≡ true) →
+            to_ask tick now self.new + 1 ≡ to_ask tick now self.old }
+    {
+        note(&mut self.of_peers, peer, owed, asked);
     }
 
     /// Notes that the peer was heard, if it has a link: when, how many questions wait for their
@@ -379,18 +456,41 @@ impl<C: Ord + Copy> Links<C> {
         first_late(&self.of_peers, greeting, silence, now)
     }
 
-    /// The first moment, in nanoseconds, at which a link is late, as in [`late`](Self::late).
-    /// `None` if there is no link that isn't closed. It doesn't allocate.
+    /// The first peer, in ascending order of the keys, that is to be asked at the steady time
+    /// `now`: its link is open, and a `tick` has passed since it was asked last, or a nanosecond,
+    /// if ticks are 0. `None` if none is. It doesn't allocate.
     ///
     /// # Cost
     ///
     /// One pass over the links.
-    pub fn next_late(&self, greeting: Duration, silence: Duration) -> Option<u128>
-        ensures { IsLeastDue C.cmp (as_nanos greeting) (as_nanos silence) self.now result }
+    pub fn to_ask(&self, tick: Duration, now: Duration) -> Option<C>
+        ensures found { IfSome result (λ peer. IsSomeAnd (link_of C.cmp self.now peer)
+            (λ held. is_to_ask (as_nanos tick) (as_nanos now) held ≡ true)) }
+        ensures none { IfNone result ((q : C) (held : Held) →
+            link_of C.cmp self.now q ≡ Some held →
+            is_to_ask (as_nanos tick) (as_nanos now) held ≡ false) }
+        ensures first { result ≡ option_map (λ e. e.0)
+            (find (λ e. is_to_ask (as_nanos tick) (as_nanos now) e.1) self.now) }
     {
         // For the proof: the contract of `len` says that the keys are in order.
         let _count = self.of_peers.len();
-        next_due(&self.of_peers, greeting, silence)
+        first_to_ask(&self.of_peers, tick, now)
+    }
+
+    /// The first moment, in nanoseconds, at which a link is late, as in [`late`](Self::late), or
+    /// its peer is to be asked, as in [`to_ask`](Self::to_ask). `None` if there is no link that
+    /// isn't closed. It doesn't allocate.
+    ///
+    /// # Cost
+    ///
+    /// One pass over the links.
+    pub fn next_due(&self, greeting: Duration, silence: Duration, tick: Duration) -> Option<u128>
+        ensures { IsLeastDue C.cmp (next_of (as_nanos greeting) (as_nanos silence) (as_nanos tick))
+            self.now result }
+    {
+        // For the proof: the contract of `len` says that the keys are in order.
+        let _count = self.of_peers.len();
+        next_due(&self.of_peers, greeting, silence, tick)
     }
 }
 
@@ -431,6 +531,20 @@ fn write<C: Ord>(of_peers: &mut BTreeMap<C, Held>, peer: &C, held: Held)
     }
 }
 
+// Notes of the peer's link, if it is kept, that so many questions wait, and what is kept of them.
+fn note<C: Ord>(of_peers: &mut BTreeMap<C, Held>, peer: &C, owed: usize, asked: Asked)
+    ensures noted { (held : Held) → link_of C.cmp of_peers.old.entries peer.now ≡ Some held →
+        of_peers.new.entries
+        ≡ set_value (is_at (C.cmp peer.now)) of_peers.old.entries (asking owed asked held) }
+    ensures none { link_of C.cmp of_peers.old.entries peer.now ≡ None →
+        of_peers.new.entries ≡ of_peers.old.entries }
+{
+    if let Some(kept) = of_peers.get_mut(peer) {
+        kept.owed = owed;
+        kept.asked = asked;
+    }
+}
+
 // The first peer whose link is late.
 fn first_late<C: Ord + Copy>(
     of_peers: &BTreeMap<C, Held>,
@@ -450,30 +564,55 @@ fn first_late<C: Ord + Copy>(
     None
 }
 
-// The first moment, in nanoseconds, at which a link is late.
+// The first peer that is to be asked.
+fn first_to_ask<C: Ord + Copy>(
+    of_peers: &BTreeMap<C, Held>,
+    tick: Duration,
+    now: Duration,
+) -> Option<C>
+    ensures { result ≡ option_map (λ e. e.0)
+        (find (λ e. is_to_ask (as_nanos tick) (as_nanos now) e.1) of_peers.now.entries) }
+{
+    for (peer, held) in of_peers {
+        if held.is_to_ask(tick, now) {
+            return Some(*peer);
+        }
+    }
+    None
+}
+
+// The first moment, in nanoseconds, at which something is due of a link.
 fn next_due<C: Ord>(
     of_peers: &BTreeMap<C, Held>,
     greeting: Duration,
     silence: Duration,
+    tick: Duration,
 ) -> Option<u128>
-    ensures { result ≡ least_due (as_nanos greeting) (as_nanos silence) None
-        (values_of of_peers.now.entries) }
+    ensures { result ≡ least_due (next_of (as_nanos greeting) (as_nanos silence) (as_nanos tick))
+        None (values_of of_peers.now.entries) }
 {
     let mut next = None;
     for (_, held) in of_peers {
-        next = sooner(next, held, greeting, silence);
+        next = sooner(next, held, greeting, silence, tick);
     }
     next
 }
 
-// The moment, or that at which the link is late, if that is sooner.
-fn sooner(next: Option<u128>, held: &Held, greeting: Duration, silence: Duration) -> Option<u128>
-    ensures { result ≡ sooner_of (as_nanos greeting) (as_nanos silence) next held.now }
+// The moment, or that at which something is due of the link, if that is sooner.
+fn sooner(
+    next: Option<u128>,
+    held: &Held,
+    greeting: Duration,
+    silence: Duration,
+    tick: Duration,
+) -> Option<u128>
+    ensures { result ≡ sooner_of (next_of (as_nanos greeting) (as_nanos silence) (as_nanos tick))
+        next held.now }
 {
     if !held.is_timed() {
         return next;
     }
-    let due = held.due(greeting, silence);
+    let due = held.next(greeting, silence, tick);
     match next {
         Some(other) => Some(other.min(due)),
         None => Some(due),

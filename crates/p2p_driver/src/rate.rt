@@ -1,8 +1,8 @@
 //! How often something may happen: a burst at once, and one more for each time that passes.
 
 ghost use Rattle.std.specs.Prelude.{◌≡◌, ◌≤◌, ◌<◌, ◌+◌, ◌-◌, ◌*◌, ℕ, List, [], ◌∷◌};
-ghost use Rattle.std.specs.Prelude.{true, false, nat_le};
-ghost use Rattle.std.specs.Duration.{as_nanos};
+ghost use Rattle.std.specs.Prelude.{true, false, nat_le, min};
+ghost use Rattle.std.specs.Duration.{as_nanos, max_nanos};
 ghost use Rattle.std.specs.Int.NonZero.{non_zero_u32_get};
 ghost use Rattle.p2p_driver.specs.Rates.{IsAllowed, AreAllowed, IsKept, count_in};
 
@@ -99,6 +99,17 @@ impl Bucket {
         ensures full { result ≡ nat_le self.now (as_nanos now) }
     {
         self.full_at <= now.as_nanos()
+    }
+}
+
+// So many nanoseconds, or the greatest duration, if that is less.
+pub(crate) fn saturated(nanos: u128) -> Duration
+    ensures { as_nanos result ≡ min nanos max_nanos }
+{
+    if nanos <= Duration::MAX.as_nanos() {
+        Duration::from_nanos_u128(nanos)
+    } else {
+        Duration::MAX
     }
 }
 

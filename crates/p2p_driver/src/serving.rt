@@ -1,18 +1,17 @@
 //! The frames that a driver has its node answer, by what the node makes of them.
 
-ghost use Rattle.std.specs.Prelude.{◌≡◌, ◌-◌, ◌++◌, [], false};
-ghost use Rattle.std.specs.Prelude.{IfSome, IfOk, length, take, replicate};
+ghost use Rattle.std.specs.Prelude.{◌≡◌, ◌-◌, ◌++◌, false};
+ghost use Rattle.std.specs.Prelude.{IfOk, length, take, replicate};
 ghost use Rattle.p2p_discovery.specs.Judgement.{judge_of};
-ghost use Rattle.p2p_discovery.specs.declared.discovery.Payload.TheVariants.{Peers};
 ghost use Rattle.p2p_driver.specs.Frames.{IsWaiting};
-ghost use Rattle.p2p_driver.specs.Hearing.{Serves, Judges, IsFirstQuestion, IsServable};
+ghost use Rattle.p2p_driver.specs.Hearing.{Serves, Judges, IsServable};
 
 use crate::links::{Phase, Waiting};
 use bytes::Bytes;
 use p2p_directory::node::wire::Frames;
 use p2p_directory::node::{Answer, Node, Received};
-use p2p_discovery::codec::{PublicKey, Write};
-use p2p_discovery::discovery::{Error, Infos, Payload};
+use p2p_discovery::codec::PublicKey;
+use p2p_discovery::discovery::Error;
 use std::alloc::{AllocError, Global};
 use std::time::Duration;
 
@@ -96,24 +95,4 @@ fn padded(alloc: Global, verdicts: &[bool], infos: usize) -> Result<Vec<bool>, A
     all.extend_from_slice(verdicts)?;
     all.resize(infos, false)?;
     Ok(all)
-}
-
-// The frame with which a peer is asked first, or `None` if an allocation fails.
-pub(crate) fn first_question<C: PublicKey>(node: &Node<C>) -> Option<Bytes>
-    ensures { IfSome result (λ frame.
-        IsFirstQuestion C.cmp ⟦<C as Frames>⟧.wire frame node.now) }
-{
-    match node.ask(0) {
-        Ok(Some(frame)) => Some(frame),
-        Ok(None) => empty_list::<C>(node.directory().allocator()),
-        Err(AllocError) => None,
-    }
-}
-
-// The frame of no infos, or `None` if an allocation fails.
-fn empty_list<C: PublicKey>(alloc: Global) -> Option<Bytes>
-    ensures { IfSome result (λ frame. frame ≡ ⟦<C as Frames>⟧.wire.spelling (Peers [])) }
-{
-    let infos = Infos::<C>::from_vec(Vec::new(alloc));
-    Payload::Peers(infos).encode(alloc).ok()
 }

@@ -102,6 +102,18 @@ pub fn next_two(driver: &mut Driver<TestKey>) -> [Said; 2] {
     [first, next(driver)]
 }
 
+/// Takes the next actions of a tested driver until one isn't a frame that is sent, at most nine of
+/// them, and returns the last.
+pub fn next_unsent(driver: &mut Driver<TestKey>) -> Said {
+    for _ in 0..8u32 {
+        let said = next(driver);
+        if !matches!(said, Said::Sent(_)) {
+            return said;
+        }
+    }
+    next(driver)
+}
+
 /// Tracks the set of a line such as `track 0 1,2` by a tested driver at this time.
 pub fn track(
     alloc: Global,

@@ -13,7 +13,11 @@ mod driver;
 #[cfg(test)]
 mod fixtures;
 #[cfg(test)]
+mod heads;
+#[cfg(test)]
 mod links;
+#[cfg(test)]
+mod meters;
 #[cfg(test)]
 mod paces;
 #[cfg(test)]

@@ -1,7 +1,8 @@
-//! Links: by peer and by number, how far each is, how its peer was heard, and who is late.
+//! Links: by peer and by number, how far each is, how its peer was heard, who is late, and who is
+//! to be asked.
 
 use bytes::Bytes;
-use p2p_driver::links::{Links, Phase, Waiting};
+use p2p_driver::links::{Asked, Links, Phase, Waiting};
 use std::alloc::{AllocError, Global};
 use std::process::Abort;
 use std::test::Fail;
@@ -18,6 +19,16 @@ fn put(links: &mut Links<u64>, peer: u64, number: u64, millis: u64) -> Result<bo
     };
     links.put(peer, number, Duration::from_millis(millis))?;
     Ok(true)
+}
+
+// What is kept of questions, if one was asked at a time in milliseconds for the set at index 7, and
+// the newest set was asked for so often.
+fn asked(millis: u64, rounds: u64) -> Asked {
+    Asked {
+        at: Duration::from_millis(millis),
+        index: Some(7),
+        rounds,
+    }
 }
 
 // How far the link of a peer is.
@@ -65,11 +76,11 @@ fn phases(alloc: Global) -> Result<[Option<Phase>; 5], AllocError> {
     let mut links = Links::new(alloc);
     put(&mut links, 70, 1, 0)?;
     put(&mut links, 50, 2, 0)?;
-    links.open(&70, Duration::from_secs(1), 1);
+    links.open(&70, Duration::from_secs(1), 1, asked(1_000, 1));
     let opened = [phase(&links, 70), phase(&links, 50), phase(&links, 60)];
     links.close(&50);
     let closed = phase(&links, 50);
-    links.open(&50, Duration::from_secs(1), 1);
+    links.open(&50, Duration::from_secs(1), 1, asked(1_000, 1));
     let [first, second, none] = opened;
     Ok([first, second, none, closed, phase(&links, 50)])
 }
@@ -121,7 +132,7 @@ fn heard(alloc: Global) -> Result<[Option<Kept>; 5], AllocError> {
     links.hear(&70, Duration::from_secs(9), 2, waiting(alloc)?);
     let first = kept(&links, 70);
     let other = kept(&links, 50);
-    links.open(&70, Duration::from_secs(10), 3);
+    links.open(&70, Duration::from_secs(10), 3, asked(10_000, 1));
     let opened = kept(&links, 70);
     links.hear(&70, Duration::from_secs(11), 1, waiting(alloc)?);
     links.close(&70);
@@ -152,10 +163,15 @@ fn late(links: &Links<u64>, millis: u64) -> Option<u64> {
     links.late(Duration::from_secs(5), Duration::from_secs(30), now)
 }
 
-// When the next is late, in milliseconds.
+// When something is due next, in nanoseconds, with a tick of so many.
+fn next_due(links: &Links<u64>, tick: u64) -> Option<u128> {
+    let tick = Duration::from_nanos(tick);
+    links.next_due(Duration::from_secs(5), Duration::from_secs(30), tick)
+}
+
+// When the next is late, in milliseconds, where nobody is asked within an hour.
 fn next_late(links: &Links<u64>) -> Option<u128> {
-    let next = links.next_late(Duration::from_secs(5), Duration::from_secs(30));
-    next.map(|nanos| nanos / 1_000_000)
+    next_due(links, 3_600_000_000_000).map(|nanos| nanos / 1_000_000)
 }
 
 // Who is late 4,999 ms and 5 s after the key of one of two peers was proved, which was the first;
@@ -168,7 +184,7 @@ fn lates(alloc: Global) -> Result<Lates, AllocError> {
     put(&mut links, 50, 2, 10_000)?;
     let found = [late(&links, 12_999), late(&links, 13_000)];
     let first = next_late(&links);
-    links.open(&70, Duration::from_secs(9), 1);
+    links.open(&70, Duration::from_secs(9), 1, asked(9_000, 1));
     let second = next_late(&links);
     links.close(&50);
     links.close(&70);
@@ -190,7 +206,7 @@ type Silents = ([Option<u64>; 2], [Option<u128>; 4]);
 fn silents(alloc: Global) -> Result<Silents, AllocError> {
     let mut links = Links::new(alloc);
     put(&mut links, 70, 1, 8_000)?;
-    links.open(&70, Duration::from_secs(9), 1);
+    links.open(&70, Duration::from_secs(9), 1, asked(9_000, 1));
     let first = next_late(&links);
     links.hear(&70, Duration::from_secs(20), 0, None);
     let second = next_late(&links);
@@ -207,5 +223,77 @@ fn a_peer_that_is_silent_is_late(rt: HostRuntime) -> Result<(), Fail> {
     let found = silents(rt.alloc())?;
     let next = [Some(39_000), Some(50_000), Some(41_000), Some(12_000)];
     assert!(rt; found == ([None, Some(70)], next));
+    Ok(())
+}
+
+// Who is to be asked at a time in nanoseconds, with a tick of so many.
+fn to_ask(links: &Links<u64>, tick: u64, nanos: u64) -> Option<u64> {
+    links.to_ask(Duration::from_nanos(tick), Duration::from_nanos(nanos))
+}
+
+// Who of two peers is to be asked a nanosecond before a tick after the first of them was asked, and
+// then, if neither has greeted; if the first has; once it was asked; once the other has greeted,
+// which was asked before; and once both links are closed. When something is due next each time.
+type Due = [([Option<u64>; 2], Option<u128>); 5];
+
+fn ticks(alloc: Global) -> Result<Due, AllocError> {
+    let mut links = Links::new(alloc);
+    put(&mut links, 70, 1, 0)?;
+    put(&mut links, 50, 2, 0)?;
+    let (tick, before, then) = (2_000_000_000u64, 3_999_999_999u64, 4_000_000_000u64);
+    let asks = |links: &Links<u64>| [to_ask(links, tick, before), to_ask(links, tick, then)];
+    let first = (asks(&links), next_due(&links, tick));
+    links.open(&70, Duration::from_secs(9), 1, asked(2_000, 1));
+    let second = (asks(&links), next_due(&links, tick));
+    links.ask(&70, 2, asked(2_001, 2));
+    let third = (asks(&links), next_due(&links, tick));
+    links.open(&50, Duration::from_secs(9), 1, asked(1_000, 1));
+    let fourth = (asks(&links), next_due(&links, tick));
+    links.close(&50);
+    links.close(&70);
+    Ok([
+        first,
+        second,
+        third,
+        fourth,
+        (asks(&links), next_due(&links, tick)),
+    ])
+}
+
+#[test]
+fn who_has_greeted_is_to_be_asked_a_tick_later(rt: HostRuntime) -> Result<(), Fail> {
+    let [first, second, third, fourth, last] = ticks(rt.alloc())?;
+    // The greeting is due 5 s after the proof.
+    assert!(rt; first == ([None, None], Some(5_000_000_000)));
+    assert!(rt; second == ([None, Some(70)], Some(4_000_000_000)));
+    assert!(rt; third == ([None, None], Some(4_001_000_000)));
+    assert!(rt; fourth == ([Some(50), Some(50)], Some(3_000_000_000)));
+    assert!(rt; last == ([None, None], None));
+    Ok(())
+}
+
+// Who is to be asked with a tick of 0 when it was asked, and a nanosecond later; when that is due;
+// and what is kept of its link then.
+type Instant = ([Option<u64>; 2], Option<u128>, Option<(usize, Asked)>);
+
+fn instant(alloc: Global) -> Result<Instant, AllocError> {
+    let mut links = Links::new(alloc);
+    put(&mut links, 70, 1, 0)?;
+    links.open(&70, Duration::from_secs(1), 1, asked(2_000, 1));
+    links.ask(&70, 2, asked(3_000, 5));
+    links.ask(&50, 9, asked(9_000, 9));
+    let found = [
+        to_ask(&links, 0, 3_000_000_000),
+        to_ask(&links, 0, 3_000_000_001),
+    ];
+    let kept = links.get(&70).map(|held| (held.owed, held.asked));
+    Ok((found, next_due(&links, 0), kept))
+}
+
+#[test]
+fn a_peer_is_asked_once_at_a_time(rt: HostRuntime) -> Result<(), Fail> {
+    let found = instant(rt.alloc())?;
+    let kept = Some((2, asked(3_000, 5)));
+    assert!(rt; found == ([None, Some(70)], Some(3_000_000_001), kept));
     Ok(())
 }

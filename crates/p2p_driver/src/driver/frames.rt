@@ -194,7 +194,7 @@ impl<C: PublicKey> Driver<C> {
         if self.actions.reserve(3).is_err() {
             return Ok(Heard::Dropped);
         }
-        let (phase, owed) = (held.phase, held.owed);
+        let (phase, owed, asked) = (held.phase, held.owed, held.asked);
         let judged = serving::judge(&mut self.node, phase, &peer, waiting, verdicts);
         let time = later(self.latest, now.steady);
         match judged {
@@ -204,13 +204,12 @@ impl<C: PublicKey> Driver<C> {
             }
             Judged::Greeted => {
                 self.latest = time;
-                let most = self.pace.owed;
-                let (node, links) = (&mut self.node, &mut self.links);
                 hearing::greet(
-                    node,
-                    links,
+                    &mut self.node,
+                    &mut self.links,
                     &mut self.actions,
-                    most,
+                    &self.pace,
+                    asked,
                     owed,
                     &peer,
                     link.0,

@@ -1,18 +1,24 @@
 //! What a driver does when time passes.
 
-ghost use Rattle.std.specs.Prelude.{◌≡◌, ◌≤◌, true, false, max, min, option_map};
+ghost use Rattle.std.specs.Prelude.{ℕ, ◌≡◌, ◌≤◌, ◌<◌, true, false, max, Option, option_map};
+ghost use Rattle.std.specs.Prelude.{IfSome};
 ghost use Rattle.std.specs.Duration.{as_nanos, max_nanos};
+ghost use Rattle.std.specs.Option.{IsSomeAnd};
 ghost use Rattle.p2p_driver.specs.Drivers.{Does};
 ghost use Rattle.p2p_driver.specs.Happenings.Happening.{Passed};
-ghost use Rattle.p2p_driver.specs.Timers.{NoneLate, ClosesOne, ClosesLate, TimesOut};
+ghost use Rattle.p2p_driver.specs.Links.{link_of, is_to_ask};
+ghost use Rattle.p2p_driver.specs.Timers.{NoneLate, NoneToAsk, NoneDue, IsAsBefore};
+ghost use Rattle.p2p_driver.specs.Timers.{ClosesOne, ClosesLate, AsksOne, AsksAll, TimesOut};
 ghost use Rattle.p2p_driver.specs.Timers.{earlier, held_moment, IsNextTimeout};
 
 use crate::actions::Why;
 use crate::driver::{Driver, later};
 use crate::link::Now;
-use crate::{connections, steps, streams};
+use crate::rate::saturated;
+use crate::{connections, hearing, questions, steps, streams};
 use p2p_directory::node::wire::Frames;
 use p2p_discovery::codec::PublicKey;
+use std::alloc::AllocError;
 use std::time::Duration;
 
 impl<C: PublicKey> Driver<C> {
@@ -20,26 +26,48 @@ impl<C: PublicKey> Driver<C> {
     /// stream that is late is closed as `Slow`: one that hasn't claimed in time, or hasn't been
     /// proved in time. So is each link whose peer hasn't greeted in time. A link whose peer wasn't
     /// heard for too long is closed as `Silent`: after its greeting, or while it waits for its
-    /// verdict. None of these is late afterwards. It doesn't allocate.
+    /// verdict.
+    ///
+    /// Each peer whose link is open, and for which a question was due a `tick` ago, is asked for
+    /// the infos that are wanted of the next set: that with the next greater index than the one
+    /// that it was asked for last, or else with the least. Each `refresh`-th round of the newest
+    /// set asks for all its infos, but the first doesn't. If there is no set, the empty list is
+    /// sent.
+    ///
+    /// None of these is due afterwards: [`Driver::next_timeout`] is later than now, unless that is
+    /// the greatest `Duration`. Before the time that it returns, nothing is due: only the time goes
+    /// on.
+    ///
+    /// # Errors
+    ///
+    /// `AllocError` if an allocation fails for a question: it is as if it had been asked, and the
+    /// next one is due a `tick` later. All else is done.
     ///
     /// # Cost
     ///
-    /// One pass over the streams and the links for each that is closed, and one more, and that of
-    /// [`Node::forget_cooled`](p2p_directory::node::Node::forget_cooled) and
+    /// One pass over the streams and the links for each that is closed or asked, and two more, that
+    /// of [`Node::ask`](p2p_directory::node::Node::ask) for each that is asked, that of
+    /// [`Node::forget_cooled`](p2p_directory::node::Node::forget_cooled), and that of
     /// [`Node::unblock_expired`](p2p_directory::node::Node::unblock_expired).
-    pub fn timeout(&mut self, now: Now)
+    pub fn timeout(&mut self, now: Now) -> Result<(), AllocError>
         ensures did { let wire = ⟦<C as Frames>⟧.wire in
-            TimesOut C.cmp wire (as_nanos now.steady) self.old self.new }
-        ensures done { NoneLate C.cmp (max self.old.latest (as_nanos now.steady)) self.new }
+            TimesOut C.cmp wire (as_nanos now.steady) result self.old self.new }
+        ensures done { NoneDue C.cmp (max self.old.latest (as_nanos now.steady)) self.new }
+        ensures later { let t = max self.old.latest (as_nanos now.steady) in t < max_nanos →
+            (next : Option ℕ) → IsNextTimeout C.cmp self.new next → IfSome next (λ n. t < n) }
+        ensures early { let t = max self.old.latest (as_nanos now.steady) in
+            (next : Option ℕ) → IsNextTimeout C.cmp self.old next → IfSome next (λ n. t < n) →
+            IsAsBefore C.cmp t self.old self.new }
     {
         let now = later(self.latest, now.steady);
         self.pass(now);
         self.close_all_late(now);
+        self.ask_all_due(now)
     }
 
-    /// When something is due next, a steady time: a stream or a link is late, or a block or a
-    /// cooldown ends. `None` if there is nothing that may become due. A moment above the greatest
-    /// `Duration` is that one. It doesn't allocate, and changes nothing.
+    /// When something is due next, a steady time: a stream or a link is late, a peer is to be
+    /// asked, or a block or a cooldown ends. `None` if there is nothing that may become due. A
+    /// moment above the greatest `Duration` is that one. It doesn't allocate, and changes nothing.
     ///
     /// # Cost
     ///
@@ -48,7 +76,8 @@ impl<C: PublicKey> Driver<C> {
         ensures { IsNextTimeout C.cmp self.now (option_map as_nanos result) }
     {
         let stream = self.arrivals.next_late(&self.pace);
-        let link = self.links.next_late(self.pace.greeting, self.pace.silence);
+        let pace = &self.pace;
+        let link = self.links.next_due(pace.greeting, pace.silence, pace.tick);
         let block = self.node.directory().next_unblock();
         let cooldown = self.node.next_cooled();
         earlier(
@@ -63,6 +92,7 @@ impl<C: PublicKey> Driver<C> {
         ensures did { let wire = ⟦<C as Frames>⟧.wire in
             Does C.cmp wire (Passed now) self.old self.new }
         ensures latest { self.new.latest ≡ as_nanos now }
+        ensures rest { self.new ≡ record self.old { node = self.new.node; latest = as_nanos now } }
     {
         steps::pass(&mut self.node, now);
         self.latest = now;
@@ -74,6 +104,7 @@ impl<C: PublicKey> Driver<C> {
         ensures did { let wire = ⟦<C as Frames>⟧.wire in
             ClosesLate C.cmp wire now self.old self.new }
         ensures none { NoneLate C.cmp (as_nanos now) self.new }
+        ensures same { NoneLate C.cmp (as_nanos now) self.old → self.new ≡ self.old }
     {
         'late: while self.close_late(now) {}
     }
@@ -86,6 +117,7 @@ impl<C: PublicKey> Driver<C> {
             ClosesOne C.cmp wire now self.old self.new }
         ensures same { result ≡ false → self.new ≡ self.old }
         ensures none { result ≡ false → NoneLate C.cmp (as_nanos now) self.new }
+        ensures late { result ≡ true → ¬ (NoneLate C.cmp (as_nanos now) self.old) }
     {
         if let Some(number) = self.arrivals.late(&self.pace, now) {
             streams::close(
@@ -103,6 +135,54 @@ impl<C: PublicKey> Driver<C> {
             return true;
         }
         false
+    }
+
+    // Asks each peer that is to be asked now. An error, if an allocation fails for one.
+    fn ask_all_due(&mut self, now: Duration) -> Result<(), AllocError>
+        requires { self.old.latest ≡ as_nanos now }
+        ensures did { let wire = ⟦<C as Frames>⟧.wire in
+            AsksAll C.cmp wire now result self.old self.new }
+        ensures none { NoneToAsk C.cmp (as_nanos now) self.new }
+        ensures late { NoneLate C.cmp (as_nanos now) self.old →
+            NoneLate C.cmp (as_nanos now) self.new }
+        ensures same { NoneToAsk C.cmp (as_nanos now) self.old → self.new ≡ self.old }
+    {
+        let mut all = Ok(());
+        'due: while let Some(peer) = self.links.to_ask(self.pace.tick, now) {
+            if !self.ask(&peer, now) {
+                all = Err(AllocError);
+            }
+        }
+        all
+    }
+
+    // Asks a peer that is to be asked now. False if an allocation fails.
+    fn ask(&mut self, peer: &C, now: Duration) -> bool
+        requires time { self.old.latest ≡ as_nanos now }
+        requires due { IsSomeAnd (link_of C.cmp self.old.links peer.now) (λ held.
+            is_to_ask (as_nanos self.old.pace.tick) (as_nanos now) held ≡ true) }
+        ensures { let wire = ⟦<C as Frames>⟧.wire in
+            AsksOne C.cmp wire now result self.old self.new }
+    {
+        let Some(held) = self.links.get(peer) else {
+            return false;
+        };
+        let (number, owed, asked) = (held.number, held.owed, held.asked);
+        if self.actions.reserve(1).is_err() {
+            self.links.ask(peer, owed, questions::tried(&asked, now));
+            return false;
+        }
+        hearing::ask(
+            &self.node,
+            &mut self.links,
+            &mut self.actions,
+            &self.pace,
+            asked,
+            owed,
+            peer,
+            number,
+            now,
+        )
     }
 }
 
@@ -127,16 +207,5 @@ fn moment(nanos: Option<u128>) -> Option<Duration>
     match nanos {
         Some(nanos) => Some(saturated(nanos)),
         None => None,
-    }
-}
-
-// So many nanoseconds, or the greatest duration, if that is less.
-fn saturated(nanos: u128) -> Duration
-    ensures { as_nanos result ≡ min nanos max_nanos }
-{
-    if nanos <= Duration::MAX.as_nanos() {
-        Duration::from_nanos_u128(nanos)
-    } else {
-        Duration::MAX
     }
 }

@@ -1,24 +1,25 @@
 //! Links of peers that are silent, and the two clocks.
 
 use crate::fixtures::{
-    SETTINGS, Said, admit, at, at_wall, driven, frame, greeting, list, next, next_two, open, pace,
-    prove, tested, track,
+    SETTINGS, Said, admit, at, at_wall, driven, frame, greeting, list, next, next_two, next_unsent,
+    open, pace, prove, tested, track,
 };
 use p2p_discovery::codec::TestKey;
 use p2p_driver::actions::{Event, Why};
 use p2p_driver::admission::{Heard, Misjudged};
 use p2p_driver::driver::Driver;
 use p2p_driver::link::Link;
-use std::alloc::Global;
+use std::alloc::{AllocError, Global};
 use std::test::Fail;
 use std::time::Duration;
 
-// Tells the tested driver the time a millisecond before and at the moment. Returns what it says.
-fn told(driver: &mut Driver<TestKey>, millis: u64) -> (Said, [Said; 2]) {
-    driver.timeout(at(millis.saturating_sub(1)));
-    let before = next(driver);
-    driver.timeout(at(millis));
-    (before, next_two(driver))
+// Tells the tested driver the time a millisecond before and at the moment. Returns what it says:
+// before, but its questions.
+fn told(driver: &mut Driver<TestKey>, millis: u64) -> Result<(Said, [Said; 2]), AllocError> {
+    driver.timeout(at(millis.saturating_sub(1)))?;
+    let before = next_unsent(driver);
+    driver.timeout(at(millis))?;
+    Ok((before, next_two(driver)))
 }
 
 // What is said of peer 1 when it is silent for too long.
@@ -27,15 +28,16 @@ fn silent() -> [Said; 2] {
     [Said::Closed(1, Why::Silent), Said::Told(down)]
 }
 
-// What the tested driver says at 122 s, when peer 1, which greeted at 2 s, is silent since.
+// When the tested driver wakes after 93 s, at which it asks peer 1, which greeted at 2 s and is
+// silent since; and what it says at 122 s.
 fn never_again(
     alloc: Global,
     driver: &mut Driver<TestKey>,
 ) -> Result<(Option<Duration>, (Said, [Said; 2])), Fail> {
     open(alloc, driver, "track 0 1,2")?;
-    driver.timeout(at(61_000));
+    driver.timeout(at(93_000))?;
     let wake = driver.next_timeout();
-    Ok((wake, told(driver, 122_000)))
+    Ok((wake, told(driver, 122_000)?))
 }
 
 #[test]
@@ -62,7 +64,7 @@ fn heard_again(
     let _heard = driver.judged(Link(1), &[true], at(3_000));
     admit(alloc, driver, bytes, 100_000)?;
     next_two(driver);
-    Ok(told(driver, 220_000))
+    Ok(told(driver, 220_000)?)
 }
 
 #[test]
@@ -92,7 +94,7 @@ fn list_waits(
     if is_judged {
         let _heard = driver.judged(Link(1), &[true], at(60_000));
     }
-    Ok(told(driver, millis))
+    Ok(told(driver, millis)?)
 }
 
 #[test]
@@ -116,7 +118,7 @@ fn unjudged(alloc: Global, driver: &mut Driver<TestKey>) -> Result<Unjudged, Fai
     prove(driver, 1, 1, 1_000)?;
     next(driver);
     driver.admit(Link(1), &greeting(alloc, "1@1000")?, at(2_000));
-    let said = told(driver, 122_000);
+    let said = told(driver, 122_000)?;
     Ok((said, driver.judged(Link(1), &[true], at(122_001))))
 }
 
@@ -143,11 +145,11 @@ fn jumps(
 ) -> Result<(Said, [Said; 2], Option<Duration>), Fail> {
     open(alloc, driver, "track 0 1,2")?;
     driver.admit(Link(1), &frame(alloc, &[0, 3, 0])?, at_wall(10_000, wall));
-    driver.timeout(at_wall(61_000, wall));
+    driver.timeout(at_wall(101_000, wall))?;
     let wake = driver.next_timeout();
-    driver.timeout(at_wall(129_999, 0));
-    let before = next(driver);
-    driver.timeout(at_wall(130_000, wall));
+    driver.timeout(at_wall(129_999, 0))?;
+    let before = next_unsent(driver);
+    driver.timeout(at_wall(130_000, wall))?;
     Ok((before, next_two(driver), wake))
 }
 
@@ -166,9 +168,9 @@ fn a_wall_clock_that_jumps_moves_no_deadline(rt: HostRuntime) -> Result<(), Fail
 // back from 100 s.
 fn back(alloc: Global, driver: &mut Driver<TestKey>) -> Result<(Said, [Said; 2]), Fail> {
     open(alloc, driver, "track 0 1,2")?;
-    driver.timeout(at(100_000));
+    driver.timeout(at(100_000))?;
     admit(alloc, driver, &[0, 3, 0], 90_000)?;
-    Ok(told(driver, 220_000))
+    Ok(told(driver, 220_000)?)
 }
 
 #[test]

@@ -12,7 +12,7 @@ use p2p_driver::actions::{Breach, Event, Why};
 use p2p_driver::admission::{Admission, Heard, Misjudged};
 use p2p_driver::driver::Driver;
 use p2p_driver::link::Link;
-use std::alloc::Global;
+use std::alloc::{AllocError, Global};
 use std::process::Abort;
 use std::test::Fail;
 use std::time::Duration;
@@ -103,9 +103,9 @@ fn blocks(
 }
 
 // What the tested driver says at 123 s, 120 s after what came at 3 s.
-fn then(driver: &mut Driver<TestKey>) -> Said {
-    driver.timeout(at(123_000));
-    next(driver)
+fn then(driver: &mut Driver<TestKey>) -> Result<Said, AllocError> {
+    driver.timeout(at(123_000))?;
+    Ok(next(driver))
 }
 
 // What the tested driver answers to a frame at 100 s without memory, and at 3 s with more and more;
@@ -118,7 +118,7 @@ fn came(alloc: Global, driver: &mut Driver<TestKey>, frame: &Bytes) -> Result<Ca
     let refused = driver.admit(Link(1), frame, at(100_000));
     memory.lift();
     let answer = comes(alloc, &mut memory, driver, frame)?;
-    Ok((refused, answer, next_two(driver), then(driver)))
+    Ok((refused, answer, next_two(driver), then(driver)?))
 }
 
 // .. to a greeting with a host name.
@@ -198,7 +198,7 @@ fn told(alloc: Global, driver: &mut Driver<TestKey>, peer: u64) -> Result<Told, 
     let answer = tells(alloc, &mut memory, driver)?;
     let [first, _] = next_two(driver);
     let known = driver.node().ingress(&TestKey(peer))?.is_some();
-    Ok((refused, answer, first, known, then(driver)))
+    Ok((refused, answer, first, known, then(driver)?))
 }
 
 // .. on a greeting. Behind the news that the link is up the first question may be left out.

@@ -1,4 +1,6 @@
-use Rattle.std.proofs.Common.{◌∙◌}
+use Rattle.std.proofs.Common.{◌∙◌, sym, subst}
+use Rattle.std.specs.Duration.{as_nanos}
+use Rattle.p2p_driver.specs.Timers.{NoneLate}
 use Rattle.p2p_directory.specs.Received.{Wire}
 use Rattle.p2p_driver.specs.Drivers.{wire_with}
 use Rattle.p2p_driver.proofs.DrivingTimers.{closes_more}
@@ -14,4 +16,6 @@ pub late-preserved : goal.late-preserved
 late-preserved g c = let one = c.close_late.ensures.one c.late-test.true in (
   one.latest ∙ c.late.invariant.0,
   closes_more g.C.Ord.cmp (wire_in g) c.args.now c.args.self.now c.late.self c.close_late.new.self c.late.invariant.1 one,
+  λ none. absurd (c.close_late.ensures.late c.late-test.true
+      (subst (NoneLate g.C.Ord.cmp (as_nanos c.args.now)) (sym (c.late.invariant.2 none)) none)),
 )

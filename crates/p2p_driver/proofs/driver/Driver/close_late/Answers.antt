@@ -1,11 +1,15 @@
-use Rattle.std.proofs.Common.{◌++◌, sym, ap, ◌∙◌, subst, find}
+use Rattle.std.proofs.Common.{◌≡◌, ◌<◌, ◌++◌, ℕ, Bool, true, false, Option, Some, None, refl, sym, ap, ◌∙◌, subst, find, arith}
+use Rattle.std.specs.Option.{IsSomeAnd}
+use Rattle.std.proofs.lemmas.Bool.Decides.{nat_tests}
+use Rattle.p2p_driver.specs.declared.arrivals.Arrival.{Arrival}
+use Rattle.p2p_driver.specs.declared.links.Held.{Held}
 use Rattle.std.specs.Prelude.{nat_le}
 use Rattle.std.specs.Duration.{as_nanos}
 use Rattle.p2p_directory.specs.Received.{Wire}
 use Rattle.p2p_driver.specs.Arrivals.{has_number, deadline_of}
 use Rattle.p2p_driver.specs.Drivers.{DriverView, seen, wire_with}
 use Rattle.p2p_driver.specs.Happenings.{next_at, shut}
-use Rattle.p2p_driver.specs.Links.{link_of}
+use Rattle.p2p_driver.specs.Links.{link_of, is_late}
 use Rattle.p2p_driver.specs.Timers.{ClosesOne, NoneLate}
 use Rattle.p2p_driver.proofs.Driving.{goes_on}
 use Rattle.p2p_driver.proofs.DrivingSets.{room_stays}
@@ -72,3 +76,30 @@ returns-clause-none g c is = let d = c.self.inside in
       streams = none_late (as_nanos d.pace.first) (as_nanos d.pace.handshake) (as_nanos c.args.now) d.arrivals (sym c.late.ensures ∙ c.in_default.is);
       links = c.in_default-late.ensures.none;
     })
+
+-- a stream that is late is against none being late
+stream_late : {K : Type 0} (first handshake t n : ℕ) (o : Option (Arrival K)) → IsSomeAnd o (λ a. nat_le (deadline_of first handshake a) t ≡ true) →
+    ((a : Arrival K) → o ≡ Some a → t < deadline_of first handshake a) → ⊥
+stream_late first handshake t n None late none = late
+stream_late first handshake t n (Some a) late none = let later = none a refl in not_both (deadline_of first handshake a) t late later
+  where
+    not_both : (d t : ℕ) → nat_le d t ≡ true → t < d → ⊥
+    not_both d t le lt = grind (arith, nat_tests)
+
+link_late : (o : Option Held) (late : Held → Bool) → IsSomeAnd o (λ h. late h ≡ true) → ((h : Held) → o ≡ Some h → late h ≡ false) → ⊥
+link_late None late is none = is
+link_late (Some h) late is none = let not = none h refl in let both = sym is ∙ not in cc
+
+pub returns-in-Some-clause-late : goal.returns-in-Some-clause-late
+returns-in-Some-clause-late g c is none = let d = c.self.inside in
+    let seen = subst (NoneLate g.C.Ord.cmp (as_nanos c.args.now)) (sym c.self.view_is) none in
+    stream_late (as_nanos d.pace.first) (as_nanos d.pace.handshake) (as_nanos c.args.now) c.in-Some.number (find (has_number c.in-Some.number) d.arrivals)
+    (late_found (λ a. nat_le (deadline_of (as_nanos d.pace.first) (as_nanos d.pace.handshake) a) (as_nanos c.args.now))
+    c.in-Some.number 0 (next_at c.self.invariant.0.history) d.arrivals c.self.invariant.0.stands.arrivals.rise (sym c.late.ensures ∙ c.in-Some.is))
+    (λ a at. seen.streams c.in-Some.number a at)
+
+pub returns-in-Some-late-clause-late : goal.returns-in-Some-late-clause-late
+returns-in-Some-late-clause-late g c is none = let d = c.self.inside in
+    let seen = subst (NoneLate g.C.Ord.cmp (as_nanos c.args.now)) (sym c.self.view_is) none in
+    link_late (link_of g.C.Ord.cmp d.links c.in-Some-late.peer) (is_late (as_nanos d.pace.greeting) (as_nanos d.pace.silence) (as_nanos c.args.now))
+    c.in-Some-late.ensures.late (λ h at. seen.links c.in-Some-late.peer h at)

@@ -1,4 +1,4 @@
-use Rattle.std.proofs.Common.{◌∙◌, ◌≡◌, [], Some, None, rules, refl, sym, ap, subst, arith}
+use Rattle.std.proofs.Common.{◌∙◌, ◌≡◌, [], Some, None, rules, refl, sym, ap, arith}
 use Rattle.std.specs.Prelude.{option_map}
 use Rattle.std.specs.Duration.{as_nanos}
 use Rattle.p2p_discovery.specs.Judgement.{judge_of}
@@ -10,7 +10,6 @@ use Rattle.p2p_driver.specs.Frames.{Outcome, owed_after, is_early}
 use Rattle.p2p_driver.specs.declared.serving.Judged.TheVariants as judged
 use Rattle.p2p_driver.specs.Frames.Cause.{OfVerdicts}
 use Rattle.p2p_driver.specs.Happenings.{Happening}
-use Rattle.p2p_driver.specs.Hearing.{Judges}
 use Rattle.p2p_driver.specs.declared.actions.Breach.TheVariants as breach
 use Rattle.p2p_driver.specs.declared.actions.Why.TheVariants as why
 use Rattle.p2p_driver.specs.declared.admission.Heard.TheVariants as heard

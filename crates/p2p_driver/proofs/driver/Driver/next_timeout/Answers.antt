@@ -8,7 +8,7 @@ use Rattle.p2p_driver.proofs.driver.Driver.next_timeout.Goals as goal
 pub returns : goal.returns
 returns g c =
     let stream = c.next_late-stream.result in
-    let link = c.next_late-link.result in
+    let link = c.next_due-link.result in
     let block = option_map as_nanos c.next_unblock-block.result in
     subst (λ v. IsNextTimeout g.C.Ord.cmp v (option_map as_nanos c.earlier-3.result)) c.self.view_is (record {
       stream = stream;
@@ -16,7 +16,7 @@ returns g c =
       block = block;
       cooldown = option_map as_nanos c.next_cooled-cooldown.result;
       streams = c.next_late-stream.ensures;
-      links = c.next_late-link.ensures;
+      links = c.next_due-link.ensures;
       blocks = subst (λ (d : DirectoryView g.row.C.Denot g.row.C-Signature.Denot). IsLeastOf (unblock_of g.C.Ord.cmp d) block)
           c.directory.ensures c.next_unblock-block.ensures;
       cooldowns = c.next_cooled-cooldown.ensures;

@@ -1,4 +1,4 @@
-use Rattle.std.proofs.Common.{◌∙◌, [], rules, refl, sym, subst, arith}
+use Rattle.std.proofs.Common.{◌≡◌, ◌∙◌, [], rules, refl, sym, subst, arith}
 use Rattle.std.specs.Duration.{as_nanos}
 use Rattle.p2p_directory.specs.Received.{Wire}
 use Rattle.p2p_driver.specs.Admissions.{IsAdmitted}
@@ -20,6 +20,25 @@ use Rattle.p2p_driver.proofs.driver.Driver.served.Goals as goal
 abbrev wire_in : (g : given.Over) → Wire g.row.C.Denot g.row.C-Signature.Denot
 wire_in g = wire_with g.C.PublicKey.verifies g.C.FixedBytes.spelled g.C.Signature.FixedBytes.spelled g.C.FixedBytes.SIZE
     g.C.FixedBytes.value g.C.Signature.FixedBytes.SIZE g.C.Signature.FixedBytes.value
+
+pub invariant_of-self : goal.invariant_of-self
+invariant_of-self g c = (
+  subst (λ x. DriverStands g.C.Ord.cmp (wire_in g) x) (sym (same_parts c.self.inside.node c.self.inside.node c.self.inside.pace c.self.inside.greeting (as_nanos c.self.inside.cooldown) (as_nanos c.self.inside.latest)
+      c.self.inside.next c.self.inside.arrivals c.self.inside.answers c.self.inside.links c.self.inside.actions.items c.reserve.new.self.items
+      refl (search rules))) c.self.invariant.0,
+  record {
+    actions_fit = (let same : c.reserve.new.self.room ≡ c.self.inside.actions.room = search rules in let fits = c.self.invariant.1.actions_fit in grind (arith));
+    answers_fit = c.self.invariant.1.answers_fit;
+  },
+)
+
+pub returns-then-is_err : goal.returns-then-is_err
+returns-then-is_err g c =
+    let f = found_on g.C.Ord.cmp (wire_in g) c.args.link.0 c.args.peer.now c.args.owed c.args.frame.now c.args.now.wall came.Served c.args.self.now c.requires in
+    dropped g.C.Ord.cmp (wire_in g) c.args.link.0 c.args.peer.now c.args.owed c.args.frame.now c.args.now.wall came.Served (as_nanos c.args.now.steady) c.args.self.now _ f
+    (served_read g.C.Ord.cmp (wire_in g) c.args.link.0 c.args.peer.now c.args.owed c.args.frame.now c.args.now.wall c.args.self.now f)
+    (same_parts c.self.inside.node c.self.inside.node c.self.inside.pace c.self.inside.greeting (as_nanos c.self.inside.cooldown) (as_nanos c.self.inside.latest)
+    c.self.inside.next c.self.inside.arrivals c.self.inside.answers c.self.inside.links c.self.inside.actions.items c.reserve.new.self.items refl (search rules) ∙ c.self.view_is)
 
 pub serve-requires : goal.serve-requires
 serve-requires g c = servable_on g.C.Ord.cmp (wire_in g) c.self.inside.node c.self.inside.pace c.self.inside.greeting (as_nanos c.self.inside.cooldown) (as_nanos c.self.inside.latest)
