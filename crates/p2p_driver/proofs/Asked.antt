@@ -96,6 +96,8 @@ module _ {C S : Type 0} (b : Base C S) (reading : Begins b.wire) where
   owes cs p phase.Greeting owed None (Cause.OfFrame frame wall) w comes list =
       absurd (not_both 1 3 w.frame refl (reading.prefixed (standing b cs).limits w.frame (payload.Greeting comes.1.0) comes.1.1) list)
   owes cs p phase.Greeting owed None (Cause.OfVerdicts verdicts) w comes list = absurd comes
+  owes cs p phase.Greeting owed None (Cause.OfHead longest head size) w comes list = absurd cc
+  owes cs p phase.Greeting owed (Some old) (Cause.OfHead longest head size) w comes list = absurd comes
   owes cs p phase.Greeting owed (Some old) (Cause.OfFrame frame wall) w comes list = absurd comes
   owes cs p phase.Greeting owed (Some old) (Cause.OfVerdicts verdicts) w comes list = absurd comes.1.2
   owes cs p phase.Open owed None (Cause.OfFrame frame wall) w comes list = let may = comes.2.1 in
@@ -103,6 +105,8 @@ module _ {C S : Type 0} (b : Base C S) (reading : Begins b.wire) where
       (sym (ap is_empty_list comes.2.0.0) ∙ not_empty (standing b cs).judge (as_nanos w.wall) (standing b cs).limits may.0 w.count w.frame may.1 may.3 may.4)
       comes.1
   owes cs p phase.Open owed None (Cause.OfVerdicts verdicts) w comes list = absurd comes
+  owes cs p phase.Open owed None (Cause.OfHead longest head size) w comes list = absurd cc
+  owes cs p phase.Open owed (Some old) (Cause.OfHead longest head size) w comes list = absurd comes
   owes cs p phase.Open owed (Some old) (Cause.OfFrame frame wall) w comes list = absurd comes
   owes cs p phase.Open owed (Some old) (Cause.OfVerdicts verdicts) w comes list = absurd comes.1.2
   owes cs p phase.Closing owed waiting c w comes list = absurd comes
@@ -135,6 +139,9 @@ module _ {C S : Type 0} (b : Base C S) (reading : Begins b.wire) where
   owed_then Outcome.Ignores t most held some = omega arith
   owed_then (Outcome.Breaks breach blocked) t most held some = omega arith
   owed_then Outcome.IsEarly t most held some = omega arith
+  owed_then Outcome.LacksChannel t most held some = omega arith
+  owed_then (Outcome.Delays next) t most held some = omega arith
+  owed_then (Outcome.Reads kind looked) t most held some = omega arith
 
   -- HOW MANY since the link of p began
 

@@ -88,6 +88,9 @@ module _ {C S : Type 0} (b : Base C S) where
     called_for cs q t (Outcome.Breaks breach (Some taken)) p = called cs (Block q (as_nanos t)) p
     called_for cs q t (Outcome.Breaks breach None) p = refl
     called_for cs q t Outcome.IsEarly p = refl
+    called_for cs q t Outcome.LacksChannel p = refl
+    called_for cs q t (Outcome.Delays next) p = refl
+    called_for cs q t (Outcome.Reads kind looked) p = refl
 
     pub linked_is_busy : (h : List (Happening C S)) → AreRight b h → (p : C) →
         is_some (link b p h) ≡ is_busy_in (world_after d (calls_of h)) p

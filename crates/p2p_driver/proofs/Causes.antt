@@ -29,7 +29,7 @@ use Rattle.p2p_driver.specs.declared.links.Waiting.{Waiting}
 use Rattle.p2p_driver.specs.Drivers.{Base, IsRight, IsHeard, link, standing}
 use Rattle.p2p_driver.specs.Frames.{Cause, Outcome, Shares, IsRefused, IsOutcome, ComesFirst, ComesNext, ComesOf, ComesOfVerdicts, Spells, read, refusal_of, begins_with, is_early, is_greeting_frame, is_unasked}
 use Rattle.p2p_driver.specs.Happenings.{Happening, calls_of, calls_by}
-use Rattle.p2p_driver.specs.Laws.{bare, Blames}
+use Rattle.p2p_driver.specs.Laws.{bare, is_head, Blames}
 use Rattle.p2p_driver.proofs.Beginnings.{Begins}
 
 -- so many infos and signatures wait in a frame that came then
@@ -73,6 +73,7 @@ module _ {C S : Type 0} where
   refusal_does (Outcome.Breaks breach.NoGreeting blocked) y r is = absurd is
   refusal_does (Outcome.Breaks breach.OtherGreeting blocked) y r is = absurd is
   refusal_does (Outcome.Breaks breach.SecondGreeting blocked) y r is = absurd is
+  refusal_does (Outcome.Breaks breach.FrameLength blocked) y r is = absurd is
   refusal_does (Outcome.Breaks (breach.Codec fault) blocked) y r is = absurd is
   refusal_does (Outcome.Breaks breach.Malformed blocked) y r is = absurd is
   refusal_does Outcome.IsEarly y None is = absurd is
@@ -84,6 +85,9 @@ module _ {C S : Type 0} where
   refusal_does (Outcome.Answers reply) y r is = absurd is
   refusal_does (Outcome.Delivers message) y r is = absurd is
   refusal_does Outcome.Ignores y r is = absurd is
+  refusal_does Outcome.LacksChannel y r is = absurd is
+  refusal_does (Outcome.Delays next) y r is = absurd is
+  refusal_does (Outcome.Reads kind looked) y r is = absurd is
 
   module _ (cmp : C → C → Ordering) (wire : Wire C S) (reading : Begins wire) (limits : PayloadConfig) (judge : Judge C S) where
     -- .. of the first frame
@@ -116,6 +120,7 @@ module _ {C S : Type 0} where
         ∙ greeting_by p frame wall (Ok (payload.Greeting comes.0, [])) (reading.prefixed limits frame (payload.Greeting comes.0) comes.1) comes.1
     first_is p frame wall (Outcome.Breaks breach.SecondGreeting blocked) comes = absurd comes
     first_is p frame wall (Outcome.Breaks breach.Malformed blocked) comes = absurd comes
+    first_is p frame wall (Outcome.Breaks breach.FrameLength blocked) comes = absurd comes
     first_is p frame wall (Outcome.Breaks (breach.Invalid e) blocked) comes = absurd comes
     first_is p frame wall (Outcome.Waits w) comes = let may = comes.1 in
         let spells = subst (λ f. Spells wire limits f (payload.Greeting may.0)) comes.0.0 may.1 in
@@ -128,6 +133,9 @@ module _ {C S : Type 0} where
     first_is p frame wall (Outcome.Delivers message) comes = absurd comes
     first_is p frame wall Outcome.Ignores comes = absurd comes
     first_is p frame wall Outcome.IsEarly comes = absurd comes
+    first_is p frame wall Outcome.LacksChannel comes = absurd comes
+    first_is p frame wall (Outcome.Delays next) comes = absurd comes
+    first_is p frame wall (Outcome.Reads kind looked) comes = absurd comes
 
     -- .. of a later one
     module _ (shares : Shares C S) (frame : List ℕ) (wall : Duration) where
@@ -200,6 +208,10 @@ module _ {C S : Type 0} where
       of_is (Outcome.Breaks breach.SecondGreeting blocked) comes = absurd comes.3
       of_is (Outcome.Greets info question) comes = absurd comes.3
       of_is Outcome.Ignores comes = absurd comes.3
+      of_is (Outcome.Breaks breach.FrameLength blocked) comes = absurd comes.3
+      of_is Outcome.LacksChannel comes = absurd comes.3
+      of_is (Outcome.Delays next) comes = absurd comes.3
+      of_is (Outcome.Reads kind looked) comes = absurd comes.3
 
       abbrev next_by : ℕ → Outcome C S
       next_by owed = if is_greeting_frame frame then Outcome.Breaks breach.SecondGreeting None
@@ -231,6 +243,10 @@ module _ {C S : Type 0} where
       next_is owed (Outcome.Answers reply) comes = neither owed (Outcome.Answers reply) comes.0 comes.1 comes.2
       next_is owed (Outcome.Delivers message) comes = neither owed (Outcome.Delivers message) comes.0 comes.1 comes.2
       next_is owed Outcome.IsEarly comes = neither owed Outcome.IsEarly comes.0 comes.1 comes.2
+      next_is owed (Outcome.Breaks breach.FrameLength blocked) comes = neither owed (Outcome.Breaks breach.FrameLength blocked) comes.0 comes.1 comes.2
+      next_is owed Outcome.LacksChannel comes = neither owed Outcome.LacksChannel comes.0 comes.1 comes.2
+      next_is owed (Outcome.Delays next) comes = neither owed (Outcome.Delays next) comes.0 comes.1 comes.2
+      next_is owed (Outcome.Reads kind looked) comes = neither owed (Outcome.Reads kind looked) comes.0 comes.1 comes.2
 
     -- .. of verdicts
     module _ (w : Waiting) (verdicts : List Bool) where
@@ -259,38 +275,45 @@ module _ {C S : Type 0} where
       verdicts_is (Outcome.Answers reply) comes = absurd comes.2
       verdicts_is (Outcome.Delivers message) comes = absurd comes.2
       verdicts_is Outcome.Ignores comes = absurd comes.2
+      verdicts_is Outcome.LacksChannel comes = absurd comes.2
+      verdicts_is (Outcome.Delays next) comes = absurd comes.2
+      verdicts_is (Outcome.Reads kind looked) comes = absurd comes.2
 
   -- ONE CAUSE, ONE OUTCOME
   module _ (cmp : C → C → Ordering) (wire : Wire C S) (reading : Begins wire) (node : Standing C S) where
     one_outcome : (ph : Phase) (owed : ℕ) (waiting : Option Waiting) (p : C) (c : Cause) (x y : Outcome C S) →
-        IsOutcome cmp wire node ph owed waiting p c x → IsOutcome cmp wire node ph owed waiting p c y → bare x ≡ bare y
-    one_outcome phase.Greeting owed None p (Cause.OfFrame frame wall) x y one other =
+        is_head c ≡ false → IsOutcome cmp wire node ph owed waiting p c x → IsOutcome cmp wire node ph owed waiting p c y → bare x ≡ bare y
+    one_outcome phase.Greeting owed None p (Cause.OfFrame frame wall) x y isnt one other =
         first_is cmp wire reading node.limits node.judge p frame wall x one
         ∙ sym (first_is cmp wire reading node.limits node.judge p frame wall y other)
-    one_outcome phase.Greeting owed None p (Cause.OfVerdicts verdicts) x y one other = absurd one
-    one_outcome phase.Greeting owed (Some w) p (Cause.OfFrame frame wall) x y one other = absurd one
-    one_outcome phase.Greeting owed (Some w) p (Cause.OfVerdicts verdicts) x y one other =
+    one_outcome phase.Greeting owed None p (Cause.OfVerdicts verdicts) x y isnt one other = absurd one
+    one_outcome phase.Greeting owed (Some w) p (Cause.OfFrame frame wall) x y isnt one other = absurd one
+    one_outcome phase.Greeting owed (Some w) p (Cause.OfVerdicts verdicts) x y isnt one other =
         verdicts_is cmp wire reading node.limits node.judge w verdicts x one.1
         ∙ sym (verdicts_is cmp wire reading node.limits node.judge w verdicts y other.1)
-    one_outcome phase.Open owed None p (Cause.OfFrame frame wall) x y one other =
+    one_outcome phase.Open owed None p (Cause.OfFrame frame wall) x y isnt one other =
         next_is cmp wire reading node.limits node.judge node.infos frame wall owed x one
         ∙ sym (next_is cmp wire reading node.limits node.judge node.infos frame wall owed y other)
-    one_outcome phase.Open owed None p (Cause.OfVerdicts verdicts) x y one other = absurd one
-    one_outcome phase.Open owed (Some w) p (Cause.OfFrame frame wall) x y one other = absurd one
-    one_outcome phase.Open owed (Some w) p (Cause.OfVerdicts verdicts) x y one other =
+    one_outcome phase.Open owed None p (Cause.OfVerdicts verdicts) x y isnt one other = absurd one
+    one_outcome phase.Open owed (Some w) p (Cause.OfFrame frame wall) x y isnt one other = absurd one
+    one_outcome phase.Open owed (Some w) p (Cause.OfVerdicts verdicts) x y isnt one other =
         verdicts_is cmp wire reading node.limits node.judge w verdicts x one.1
         ∙ sym (verdicts_is cmp wire reading node.limits node.judge w verdicts y other.1)
-    one_outcome phase.Closing owed waiting p c x y one other = absurd one
+    one_outcome phase.Greeting owed None p (Cause.OfHead longest head size) x y isnt one other = absurd cc
+    one_outcome phase.Greeting owed (Some w) p (Cause.OfHead longest head size) x y isnt one other = absurd one
+    one_outcome phase.Open owed None p (Cause.OfHead longest head size) x y isnt one other = absurd cc
+    one_outcome phase.Open owed (Some w) p (Cause.OfHead longest head size) x y isnt one other = absurd one
+    one_outcome phase.Closing owed waiting p c x y isnt one other = absurd one
 
   pub one_cause : (b : Base C S) → Begins b.wire → (h : List (Happening C S)) (n m : ℕ) (p : C) (t u : Duration) (owed other : ℕ)
-      (c : Cause) (x y : Outcome C S) → IsRight b h (Happening.Heard n p t owed c x) → IsRight b h (Happening.Heard m p u other c y) →
-      bare x ≡ bare y
-  one_cause b reading h n m p t u owed other c x y one two = go (link b p h) one two
+      (c : Cause) (x y : Outcome C S) → is_head c ≡ false → IsRight b h (Happening.Heard n p t owed c x) →
+      IsRight b h (Happening.Heard m p u other c y) → bare x ≡ bare y
+  one_cause b reading h n m p t u owed other c x y isnt one two = go (link b p h) one two
     where
       go : (o : Option Held) → IsSomeAnd o (IsHeard b h n p t owed c x) → IsSomeAnd o (IsHeard b h m p u other c y) → bare x ≡ bare y
       go None one two = absurd one
       go (Some held) one two = one_outcome b.made.directory.cmp b.wire reading (standing b (calls_of h)) held.phase held.owed held.waiting p c x y
-          one.comes two.comes
+          isnt one.comes two.comes
 
   -- FOR WHAT A PEER IS BLOCKED
 
@@ -338,6 +361,9 @@ module _ {C S : Type 0} where
     heard_calls n q t owed c (Outcome.Breaks breach (Some taken)) is =
         same_block q p (as_nanos t) now (only_one call (Block q (as_nanos t)) is)
     heard_calls n q t owed c Outcome.IsEarly is = absurd (nothing_in call is)
+    heard_calls n q t owed c Outcome.LacksChannel is = absurd (nothing_in call is)
+    heard_calls n q t owed c (Outcome.Delays next) is = absurd (nothing_in call is)
+    heard_calls n q t owed c (Outcome.Reads kind looked) is = absurd (nothing_in call is)
 
     not_this : (a : Call C S) → ¬ (Is a call) → ¬ (Contains (a ∷ []) call)
     not_this a isnt is = isnt (only_one call a is)

@@ -26,7 +26,7 @@ use Rattle.p2p_driver.proofs.StreamHistory.{stream_after, stream_later}
 
 module _ {C S : Type 0} (b : Base C S) where
   -- the latest time is no earlier than it was
-  later_than : (e : Happening C S) (h : List (Happening C S)) → IsInTime b h (time_by e) → latest_at h ≤ latest_at (e ∷ h)
+  pub later_than : (e : Happening C S) (h : List (Happening C S)) → IsInTime b h (time_by e) → latest_at h ≤ latest_at (e ∷ h)
   later_than e h within = go (time_by e) refl within
     where
       same : (n : ℕ) → n ≤ n
@@ -37,10 +37,10 @@ module _ {C S : Type 0} (b : Base C S) where
       go (Some t) is within = subst (λ o. latest_at h ≤ latest_of (found_with o e (last_with time_by h))) (sym is) within
 
   -- none is after the latest time
-  before_on : (now later : ℕ) (times : List ℕ) → now ≤ later → AreBefore now times → AreBefore later times
+  pub before_on : (now later : ℕ) (times : List ℕ) → now ≤ later → AreBefore now times → AreBefore later times
   before_on now later times after before k a at = let early = before k a at in grind (arith)
 
-  one_before : (t : ℕ) (times : List ℕ) → AreBefore t times → AreBefore t (t ∷ times)
+  pub one_before : (t : ℕ) (times : List ℕ) → AreBefore t times → AreBefore t (t ∷ times)
   one_before t times before zero a at = let same = ap (λ o. unwrap_or o a) at in grind (arith)
   one_before t times before (suc k) a at = before k a at
 

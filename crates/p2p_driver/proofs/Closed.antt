@@ -82,6 +82,11 @@ module _ {C S : Type 0} (s : Settings C S) where
   heard_cut n q t owed cause Outcome.IsEarly h p w is =
       link_hears s p q n t owed cause Outcome.IsEarly h
       ∙ ap (λ b. if b then option_map closed (link_at s p h) else link_at s p h) (told (same s q p) why.Future w is).0
+  heard_cut n q t owed cause Outcome.LacksChannel h p w is =
+      link_hears s p q n t owed cause Outcome.LacksChannel h
+      ∙ ap (λ b. if b then option_map closed (link_at s p h) else link_at s p h) (told (same s q p) why.NoChannel w is).0
+  heard_cut n q t owed cause (Outcome.Reads kind looked) h p w is = absurd cc
+  heard_cut n q t owed cause (Outcome.Delays next) h p w is = absurd cc
   heard_cut n q t owed cause (Outcome.Waits waiting) h p w is = absurd cc
   heard_cut n q t owed cause (Outcome.Greets info question) h p w is = absurd cc
   heard_cut n q t owed cause (Outcome.Takes infos) h p w is = absurd cc
@@ -130,6 +135,9 @@ module _ {C S : Type 0} (s : Settings C S) where
         Contains-append_left (shut q (why.Breach breach) (link_at s q h)) (barred q breach blocked) (closes held.number w)
         (shut_said q (why.Breach breach) w is)
     heard_said n q t owed cause Outcome.IsEarly w is = shut_said q why.Future w is
+    heard_said n q t owed cause Outcome.LacksChannel w is = shut_said q why.NoChannel w is
+    heard_said n q t owed cause (Outcome.Reads kind looked) w is = absurd cc
+    heard_said n q t owed cause (Outcome.Delays next) w is = absurd cc
     heard_said n q t owed cause (Outcome.Waits waiting) w is = absurd cc
     heard_said n q t owed cause (Outcome.Greets info question) w is = absurd cc
     heard_said n q t owed cause (Outcome.Takes infos) w is = absurd cc

@@ -21,6 +21,8 @@ use Rattle.p2p_driver.specs.Arrivals.{arrival_of, room_of, arrived, has_number, 
 use Rattle.p2p_driver.specs.Drivers.{DriverView, DriverStands, DriverStandsAt, Does, Comes, AreStreams, Base, link, may_come, may_claim, AnswersClaim, ClaimedBy, seen, base_of}
 use Rattle.p2p_driver.specs.Happenings.{Happening, crowded_out, closing, answered_in, calls_of, link_count}
 use Rattle.p2p_driver.specs.Links.{link_of, needs}
+use Rattle.p2p_driver.specs.Meters.{MetersView}
+use Rattle.p2p_driver.specs.Reads.{reads_of}
 use Rattle.p2p_driver.specs.declared.actions.Action.{Action}
 use Rattle.p2p_driver.specs.declared.actions.Why.{Why}
 use Rattle.p2p_driver.specs.declared.arrivals.Arrival.{Arrival}
@@ -70,11 +72,11 @@ unslotted at = record {
 module _ {C S : Type 0} where
   -- parts that are as they are seen
   pub viewed : (v : DriverView C S) (node : NodeView C S) (pace : Pace) (greeting : List ℕ) (cooldown latest next : ℕ)
-      (arrivals : List (Arrival C)) (answers : AnswersView) (links : List (C × Held)) (actions : List (Action C)) →
+      (arrivals : List (Arrival C)) (answers : AnswersView) (reads : List (ℕ × MetersView)) (links : List (C × Held)) (actions : List (Action C)) →
       v.node ≡ record node { slots = [] } → v.pace ≡ pace → v.greeting ≡ greeting → v.cooldown ≡ cooldown → v.latest ≡ latest → v.next ≡ next →
-      v.arrivals ≡ arrivals → v.answers ≡ roomless answers → v.links ≡ links → v.actions ≡ actions →
-      v ≡ seen node pace greeting cooldown latest next arrivals answers links actions
-  viewed v node pace greeting cooldown latest next arrivals answers links actions a b c l d e f g h k = λ i. record {
+      v.arrivals ≡ arrivals → v.answers ≡ roomless answers → v.reads ≡ reads → v.links ≡ links → v.actions ≡ actions →
+      v ≡ seen node pace greeting cooldown latest next arrivals answers reads links actions
+  viewed v node pace greeting cooldown latest next arrivals answers reads links actions a b c l d e f g r h k = λ i. record {
     node = a i;
     pace = b i;
     greeting = c i;
@@ -83,23 +85,24 @@ module _ {C S : Type 0} where
     next = e i;
     arrivals = f i;
     answers = g i;
+    reads = r i;
     links = h i;
     actions = k i;
   }
 
 module _ {C S : Type 0} (node : NodeView C S) (pace : Pace) (greeting : List ℕ) (cooldown latest next : ℕ)
-    (arrivals : List (Arrival C)) (answers : AnswersView) (links : List (C × Held)) (actions : List (Action C)) where
+    (arrivals : List (Arrival C)) (answers : AnswersView) (reads : List (ℕ × MetersView)) (links : List (C × Held)) (actions : List (Action C)) where
   abbrev v : DriverView C S
-  v = seen node pace greeting cooldown latest next arrivals answers links actions
+  v = seen node pace greeting cooldown latest next arrivals answers reads links actions
 
   -- parts that are as they were
   pub kept_view : (xs : List (Arrival C)) (answers2 : AnswersView) (actions2 : List (Action C)) →
       xs ≡ arrivals → roomless answers2 ≡ roomless answers → actions2 ≡ actions →
-      seen node pace greeting cooldown latest next xs answers2 links actions2
-      ≡ seen node pace greeting cooldown latest next arrivals answers links actions
+      seen node pace greeting cooldown latest next xs answers2 reads links actions2
+      ≡ seen node pace greeting cooldown latest next arrivals answers reads links actions
   kept_view xs answers2 actions2 streams same said = sym (viewed
-      (seen node pace greeting cooldown latest next arrivals answers links actions) node pace greeting cooldown latest next xs answers2 links
-      actions2 refl refl refl refl refl refl (sym streams) (sym same) refl (sym said))
+      (seen node pace greeting cooldown latest next arrivals answers reads links actions) node pace greeting cooldown latest next xs answers2 reads links
+      actions2 refl refl refl refl refl refl (sym streams) (sym same) refl refl (sym said))
 
   -- the claims that were answered, at a later time, with room for more
   pub kept_from : (b : Base C S) (h : List (Happening C S)) (t : ℕ) → DriverStandsAt b h v → latest ≤ t →
@@ -137,7 +140,7 @@ module _ {C S : Type 0} (node : NodeView C S) (pace : Pace) (greeting : List ℕ
         room_of pace (as_nanos t) arrivals origin ≡ space → xs ≡ arrived (arrival_of next origin t) space arrivals →
         roomless answers2 ≡ roomless answers → actions2 ≡ actions ++ crowded_out space → next2 ≡ next + 1 →
         Does cmp wire (Happening.Arrived next origin t space) v
-        (seen node pace greeting cooldown (as_nanos t) next2 xs answers2 links actions2)
+        (seen node pace greeting cooldown (as_nanos t) next2 xs answers2 reads links actions2)
     comes origin t space xs answers2 actions2 next2 after some is streams same said more = record {
       goes = λ given pace2 h at.
           subst (DriverStandsAt (base_of cmp wire given pace2) (Happening.Arrived next origin t space ∷ h))
@@ -146,7 +149,7 @@ module _ {C S : Type 0} (node : NodeView C S) (pace : Pace) (greeting : List ℕ
             next = next + 1;
             arrivals = arrived (arrival_of next origin t) space arrivals;
             actions = actions ++ crowded_out space;
-          }) node pace greeting cooldown (as_nanos t) next2 xs answers2 links actions2 refl refl refl refl refl (sym more) (sym streams) (sym same) refl (sym said))
+          }) node pace greeting cooldown (as_nanos t) next2 xs answers2 reads links actions2 refl refl refl refl refl (sym more) (sym streams) (sym same) refl refl (sym said))
           (Standing.came (base_of cmp wire given pace2) h v at origin t space some is after);
     }
 
@@ -159,7 +162,7 @@ module _ {C S : Type 0} (node : NodeView C S) (pace : Pace) (greeting : List ℕ
         MayAnswer pace (as_nanos t) stream.origin.0 claims
         × AreKept pace (as_nanos t) ((stream.origin.0, as_nanos t) ∷ claims) answers2) →
         Does cmp wire (Happening.Claimed n p stream.origin t) v
-        (seen node pace greeting cooldown (as_nanos t) next xs answers2 links actions2)
+        (seen node pace greeting cooldown (as_nanos t) next xs answers2 reads links actions2)
     claims_by n stream p t may xs answers2 actions2 number found none decides after yes_may streams said answered = record {
       goes = λ given pace2 h at.
           let b = base_of cmp wire given pace2 in
@@ -167,8 +170,8 @@ module _ {C S : Type 0} (node : NodeView C S) (pace : Pace) (greeting : List ℕ
           let here = sym found ∙ at.arrivals.each n in
           subst (DriverStandsAt b (Happening.Claimed n p stream.origin t ∷ h))
           (viewed (record v { latest = as_nanos t; arrivals = claimed n p arrivals; answers = roomless answers2 })
-          node pace greeting cooldown (as_nanos t) next xs answers2 links actions2
-          refl refl refl refl refl refl (ap (λ k. claimed k p arrivals) (sym number) ∙ sym streams) refl refl (sym said))
+          node pace greeting cooldown (as_nanos t) next xs answers2 reads links actions2
+          refl refl refl refl refl refl (ap (λ k. claimed k p arrivals) (sym number) ∙ sym streams) refl refl refl (sym said))
           (Standing.claims b h v at n p stream.origin t (roomless answers2) (
             subst (λ o. IsSomeAnd o (λ a. a.claim ≡ None)) here none,
             subst (λ o. IsSomeAnd o (λ a. a.origin.0 ≡ stream.origin.0)) here refl,
@@ -189,7 +192,7 @@ module _ {C S : Type 0} (node : NodeView C S) (pace : Pace) (greeting : List ℕ
         IsClaimRefusal pace (as_nanos t) stream.origin.0 claims may w
         × AreKept pace (as_nanos t) claims answers2) →
         Does cmp wire (Happening.Refused n p t w) v
-        (seen node pace greeting cooldown (as_nanos t) next xs answers2 links actions2)
+        (seen node pace greeting cooldown (as_nanos t) next xs answers2 reads links actions2)
     refuses_by n stream p t may w xs answers2 actions2 number found none decides after streams said answered = record {
       goes = λ given pace2 h at.
           let b = base_of cmp wire given pace2 in
@@ -202,11 +205,11 @@ module _ {C S : Type 0} (node : NodeView C S) (pace : Pace) (greeting : List ℕ
             answers = roomless answers2;
             actions = actions ++ closing n w;
           })
-          node pace greeting cooldown (as_nanos t) next xs answers2 links actions2
-          refl refl refl refl refl refl (ap (λ k. filter (λ a. not (has_number k a)) arrivals) (sym number) ∙ sym streams) refl refl
+          node pace greeting cooldown (as_nanos t) next xs answers2 reads links actions2
+          refl refl refl refl refl refl (ap (λ k. filter (λ a. not (has_number k a)) arrivals) (sym number) ∙ sym streams) refl refl refl
           (ap (λ k. actions ++ closing k w) (sym number) ∙ sym said))
           (Standing.goes b h v at n t (Happening.Refused n p t w) (closing n w) (roomless answers2)
-          refl (λ j. refl) (λ j. refl) (λ j. refl) refl refl (λ q. refl) (λ q. refl) (λ q. refl) refl refl refl refl refl (
+          refl (λ j. refl) (λ j. refl) (λ j. refl) refl refl (λ q. refl) (λ q. refl) (λ q. refl) refl refl refl refl refl (λ j. refl) (λ j. refl) (λ j place. refl) (
             subst (λ o. IsSomeAnd o (λ a. a.claim ≡ None)) here none,
             (
               stream.origin,
@@ -244,11 +247,11 @@ module _ {C S : Type 0} {cmp : C → C → Ordering} {wire : Wire C S} where
 
 -- a new driver
 pub stands_new : {C S : Type 0} (cmp : C → C → Ordering) (wire : Wire C S) (given : Setup C S) (node : NodeView C S) (pace : Pace)
-    (greeting : List ℕ) (arrivals : List (Arrival C)) (answers : AnswersView) (links : List (C × Held)) (actions : ActionsView C) →
+    (greeting : List ℕ) (arrivals : List (Arrival C)) (answers : AnswersView) (reads : List (ℕ × MetersView)) (links : List (C × Held)) (actions : ActionsView C) →
     NodeStandsAt (made_of cmp given) [] node → greeting ≡ wire.spelling (payload.Greeting given.myself) → arrivals ≡ [] →
-    AreKept pace 0 [] answers → links ≡ [] → actions.items ≡ [] →
-    DriverStandsAt (base_of cmp wire given pace) [] (seen node pace greeting (as_nanos given.cfg.peer_connection_cooldown) 0 1 arrivals answers links actions.items)
-stands_new cmp wire given node pace greeting arrivals answers links actions stands own streams kept none nothing = record {
+    AreKept pace 0 [] answers → reads ≡ [] → links ≡ [] → actions.items ≡ [] →
+    DriverStandsAt (base_of cmp wire given pace) [] (seen node pace greeting (as_nanos given.cfg.peer_connection_cooldown) 0 1 arrivals answers reads links actions.items)
+stands_new cmp wire given node pace greeting arrivals answers reads links actions stands own streams kept unread none nothing = record {
   node = record {
     limit_fits = stands.limit_fits;
     refines = stands.refines;
@@ -263,6 +266,7 @@ stands_new cmp wire given node pace greeting arrivals answers links actions stan
   next = refl;
   arrivals = subst (AreStreams []) (sym streams) (record { rise = grind (arith); each = λ n. refl });
   answers = record { all = kept.all; each = kept.each };
+  reads = λ n. ap (λ rs. reads_of rs n) unread;
   links = λ p. ap (λ es. link_of cmp es p) none;
   count = let same = ap length none in grind (arith);
   actions = nothing;

@@ -12,6 +12,7 @@ use Rattle.p2p_driver.specs.Answers.{AnswersView}
 use Rattle.p2p_driver.specs.Drivers.{DriverView, DriverStandsAt, Does, AnswersPart, PartedBy, seen, base_of}
 use Rattle.p2p_driver.specs.Happenings.{Happening, calls_of, shut, closed_at}
 use Rattle.p2p_driver.specs.Links.{link_of}
+use Rattle.p2p_driver.specs.Meters.{MetersView}
 use Rattle.p2p_driver.specs.Steps.{Makes, IsBlocked}
 use Rattle.p2p_driver.specs.declared.actions.Action.{Action}
 use Rattle.p2p_driver.specs.declared.actions.Why.TheVariants as why
@@ -22,16 +23,16 @@ use Rattle.p2p_driver.proofs.Driving.{slotted, unslotted}
 use Rattle.p2p_driver.proofs.Standing
 
 module _ {C S : Type 0} (cmp : C → C → Ordering) (wire : Wire C S) (node : NodeView C S) (pace : Pace)
-    (greeting : List ℕ) (cooldown latest next : ℕ) (arrivals : List (Arrival C)) (answers : AnswersView)
+    (greeting : List ℕ) (cooldown latest next : ℕ) (arrivals : List (Arrival C)) (answers : AnswersView) (reads : List (ℕ × MetersView))
     (links : List (C × Held)) (actions : List (Action C)) where
   abbrev v : DriverView C S
-  v = seen node pace greeting cooldown latest next arrivals answers links actions
+  v = seen node pace greeting cooldown latest next arrivals answers reads links actions
 
   -- infos came
   pub gives : (infos : List (Info C S)) (t : Duration) (node2 : NodeView C S) → latest ≤ as_nanos t →
       Makes cmp (Update infos ∷ []) node node2 →
       Does cmp wire (Happening.Given infos t) v
-      (seen node2 pace greeting cooldown (as_nanos t) next arrivals answers links actions)
+      (seen node2 pace greeting cooldown (as_nanos t) next arrivals answers reads links actions)
   gives infos t node2 after made = record {
     goes = λ given pace2 h at.
         Standing.gives (base_of cmp wire given pace2) h v at infos t (record node2 { slots = [] }) after
@@ -45,13 +46,13 @@ module _ {C S : Type 0} (cmp : C → C → Ordering) (wire : Wire C S) (node : N
       ((q : C) → link_of cmp links2 q ≡ closed_at cmp p (link_of cmp links) q) → length links2 ≡ length links →
       actions2 ≡ actions ++ shut p why.Blocked (link_of cmp links p) →
       Does cmp wire (Happening.Barred p t taken) v
-      (seen node2 pace greeting cooldown (as_nanos t) next arrivals answers links2 actions2)
+      (seen node2 pace greeting cooldown (as_nanos t) next arrivals answers reads links2 actions2)
   bars p t taken node2 links2 actions2 after made is tied same said = record {
     goes = λ given pace2 h at.
         let b = base_of cmp wire given pace2 in
         let stood = slotted at.node in
         subst (λ acts. DriverStandsAt b (Happening.Barred p t taken ∷ h)
-        (seen node2 pace greeting cooldown (as_nanos t) next arrivals answers links2 acts)) (sym said)
+        (seen node2 pace greeting cooldown (as_nanos t) next arrivals answers reads links2 acts)) (sym said)
         (Standing.bars b h v at p t taken (record node2 { slots = [] }) links2
         (is given (calls_of h) stood) after (unslotted (made given (calls_of h) stood)) tied same);
   }
@@ -62,12 +63,12 @@ module _ {C S : Type 0} (cmp : C → C → Ordering) (wire : Wire C S) (node : N
       ((q : C) → link_of cmp links2 q ≡ closed_at cmp p (link_of cmp links) q) → length links2 ≡ length links →
       actions2 ≡ actions ++ shut p why.Application (link_of cmp links p) →
       Does cmp wire (Happening.Parted p t) v
-      (seen node pace greeting cooldown (as_nanos t) next arrivals answers links2 actions2)
+      (seen node pace greeting cooldown (as_nanos t) next arrivals answers reads links2 actions2)
   parts p t links2 actions2 linked after tied same said = record {
     goes = λ given pace2 h at.
         let b = base_of cmp wire given pace2 in
         subst (λ acts. DriverStandsAt b (Happening.Parted p t ∷ h)
-        (seen node pace greeting cooldown (as_nanos t) next arrivals answers links2 acts)) (sym said)
+        (seen node pace greeting cooldown (as_nanos t) next arrivals answers reads links2 acts)) (sym said)
         (Standing.parts b h v at p t links2 (sym (ap is_some (at.links p)) ∙ linked) after tied same);
   }
 

@@ -1,5 +1,5 @@
 -- How frames make a driver stand, by its parts.
-use Rattle.std.proofs.Common.{◌≡◌, Bool, false, ℕ, ◌-◌, ◌≤◌, List, [], ◌∷◌, ◌++◌, Option, Some, None, refl, sym, ◌∙◌, ap, subst}
+use Rattle.std.proofs.Common.{◌≡◌, Bool, true, false, not, ◌&&◌, ℕ, ◌-◌, ◌≤◌, List, [], ◌∷◌, ◌++◌, Option, Some, None, refl, sym, ◌∙◌, ap, subst}
 use Rattle.std.specs.Prelude.{IfSome, length, max, if◌then◌else◌, option_map}
 use Rattle.std.specs.BTreeMap.{is_at}
 use Rattle.std.proofs.lemmas.List.{append-nil}
@@ -15,14 +15,16 @@ use Rattle.p2p_directory.specs.Nodes.{NodeView, NodeStandsAt, Made, AtEach, made
 use Rattle.p2p_directory.specs.Received.{Wire, Standing}
 use Rattle.p2p_directory.specs.declared.node.setup.Setup.{Setup}
 use Rattle.p2p_directory.specs.Run.{world_after}
-use Rattle.p2p_driver.specs.Admissions.{SeenIn, IsRead, HearsOf, CameOn, IsReturned, AnswersFrame}
+use Rattle.p2p_driver.specs.Admissions.{SeenIn, IsRead, HearsOf, HasLink, CameOn, IsReturned, AnswersFrame}
 use Rattle.p2p_driver.specs.Answers.{AnswersView}
 use Rattle.p2p_driver.specs.Drivers.{DriverView, DriverStandsAt, IsHeard, Does, seen, base_of}
 use Rattle.p2p_driver.specs.Frames.{Cause, Outcome, Shares, IsOutcome, ComesFirst, ComesNext, ComesOf, ComesOfVerdicts, owed_after, is_greeting_frame, is_unasked}
 use Rattle.p2p_driver.specs.Frames.Cause.{OfFrame, OfVerdicts}
 use Rattle.p2p_driver.specs.Happenings.{Happening, calls_of}
 use Rattle.p2p_driver.specs.Hearing.{Follows, IsServed, IsMessage, IsServable, TellsNext}
-use Rattle.p2p_driver.specs.Links.{link_of, hearing}
+use Rattle.p2p_driver.specs.Links.{link_of, hearing, is_expected, is_unexpected, is_timed}
+use Rattle.p2p_driver.specs.Meters.{MetersView}
+use Rattle.p2p_driver.specs.Reading.{read_by, AreMetered, IsPaced}
 use Rattle.p2p_driver.specs.Steps.{MakesFor, IsDone, IsBlock, IsBlocked}
 use Rattle.p2p_driver.specs.declared.actions.Action.{Action}
 use Rattle.p2p_driver.specs.declared.admission.Admission.TheVariants as admission
@@ -92,38 +94,64 @@ module _ {C S : Type 0} (cmp : C → C → Ordering) (wire : Wire C S) (node : N
       go phase.Closing isnt stands comes = absurd (isnt refl)
 
 module _ {C S : Type 0} (cmp : C → C → Ordering) (wire : Wire C S) (node : NodeView C S) (pace : Pace)
-    (greeting : List ℕ) (cooldown latest next : ℕ) (arrivals : List (Arrival C)) (answers : AnswersView)
+    (greeting : List ℕ) (cooldown latest next : ℕ) (arrivals : List (Arrival C)) (answers : AnswersView) (reads : List (ℕ × MetersView))
     (links : List (C × Held)) (actions : List (Action C)) where
   abbrev v : DriverView C S
-  v = seen node pace greeting cooldown latest next arrivals answers links actions
+  v = seen node pace greeting cooldown latest next arrivals answers reads links actions
 
-  -- the peer of a link was heard
-  pub hears : (n : ℕ) (p : C) (held : Held) (t : Duration) (owed : ℕ) (cause : Cause) (outcome : Outcome C S)
-      (node2 : NodeView C S) (links2 : List (C × Held)) (actions2 : List (Action C)) →
+  -- what is so of the frames that were read, wherever it stands
+  abbrev pub ReadsAre : Happening C S → Duration → List (ℕ × MetersView) → Type 0
+  ReadsAre e t reads2 = (given : Setup C S) (pace2 : Pace) (h : List (Happening C S)) → DriverStandsAt (base_of cmp wire given pace2) h v →
+      AreMetered pace2 (as_nanos t) (e ∷ h) reads2
+
+  -- a cause was in its turn, wherever it stands
+  abbrev pub Paces : ℕ → Duration → Held → Cause → Outcome C S → Type 0
+  Paces n t held cause outcome = (given : Setup C S) (pace2 : Pace) (h : List (Happening C S)) → DriverStandsAt (base_of cmp wire given pace2) h v →
+      IsPaced pace2 h n (as_nanos t) (made_of cmp given).limits held cause outcome
+
+  -- the peer of a link was heard, or may be
+  pub hears_as : (n : ℕ) (p : C) (held : Held) (t : Duration) (owed : ℕ) (cause : Cause) (outcome : Outcome C S)
+      (node2 : NodeView C S) (reads2 : List (ℕ × MetersView)) (links2 : List (C × Held)) (actions2 : List (Action C)) →
       link_of cmp links p ≡ Some held → held.number ≡ n → latest ≤ as_nanos t → Outs cmp wire v.node p held cause outcome →
-      owed ≡ owed_after held.phase outcome pace.owed held.owed →
+      Paces n t held cause outcome → owed ≡ owed_after held.phase outcome pace.owed held.owed →
       AtEach cmp node (λ m calls. IsDone wire m pace.refresh held.asked calls p t outcome) → MakesFor cmp p t outcome node node2 →
-      Follows cmp n p t owed outcome links links2 actions actions2 →
+      ReadsAre (Happening.Heard n p t owed cause outcome) t reads2 → Follows cmp n p t owed outcome links links2 actions actions2 →
       Does cmp wire (Happening.Heard n p t owed cause outcome) v
-      (seen node2 pace greeting cooldown (as_nanos t) next arrivals answers links2 actions2)
-  hears n p held t owed cause outcome node2 links2 actions2 linked number after comes owes done made follows = record {
+      (seen node2 pace greeting cooldown (as_nanos t) next arrivals answers reads2 links2 actions2)
+  hears_as n p held t owed cause outcome node2 reads2 links2 actions2 linked number after comes paced owes done made metered follows = record {
     goes = λ given pace2 h at.
         let b = base_of cmp wire given pace2 in
         let stood = slotted at.node in
         subst (λ acts. DriverStandsAt b (Happening.Heard n p t owed cause outcome ∷ h)
-        (seen node2 pace greeting cooldown (as_nanos t) next arrivals answers links2 acts)) (sym follows.said)
-        (Standing.hears b h v at n p t owed cause outcome (record node2 { slots = [] }) links2
+        (seen node2 pace greeting cooldown (as_nanos t) next arrivals answers reads2 links2 acts)) (sym follows.said)
+        (Standing.hears b h v at n p t owed cause outcome (record node2 { slots = [] }) reads2 links2
         (subst (λ o. IsSomeAnd o (IsHeard b h n p t owed cause outcome)) (sym linked ∙ at.links p) (record {
           number = number;
           comes = comes given (calls_of h) at.node;
           owes = subst (λ q. owed ≡ owed_after held.phase outcome q.owed held.owed) at.pace owes;
           done = subst (λ (q : Pace). IsDone wire b.made q.refresh held.asked (calls_of h) p t outcome) at.pace (done given (calls_of h) stood);
+          paced = paced given pace2 h at;
         }))
-        after (unslotted (made given (calls_of h) stood)) follows.links_are follows.count);
+        after (unslotted (made given (calls_of h) stood)) (metered given pace2 h at) follows.links_are follows.count);
   }
 
+  -- .. and no frame is read
+  pub hears : (n : ℕ) (p : C) (held : Held) (t : Duration) (owed : ℕ) (cause : Cause) (outcome : Outcome C S)
+      (node2 : NodeView C S) (links2 : List (C × Held)) (actions2 : List (Action C)) →
+      link_of cmp links p ≡ Some held → held.number ≡ n → latest ≤ as_nanos t → Outs cmp wire v.node p held cause outcome →
+      Paces n t held cause outcome → owed ≡ owed_after held.phase outcome pace.owed held.owed →
+      AtEach cmp node (λ m calls. IsDone wire m pace.refresh held.asked calls p t outcome) → MakesFor cmp p t outcome node node2 →
+      ((j : ℕ) (place : Option ℕ) → read_by j place (Happening.Heard n p t owed cause outcome) ≡ []) →
+      Follows cmp n p t owed outcome links links2 actions actions2 →
+      Does cmp wire (Happening.Heard n p t owed cause outcome) v
+      (seen node2 pace greeting cooldown (as_nanos t) next arrivals answers reads links2 actions2)
+  hears n p held t owed cause outcome node2 links2 actions2 linked number after comes paced owes done made unread follows =
+      hears_as n p held t owed cause outcome node2 reads links2 actions2 linked number after comes paced owes done made
+      (λ given pace2 h at. Standing.reads_later (base_of cmp wire given pace2) h v at (Happening.Heard n p t owed cause outcome) (as_nanos t) after
+      (λ j. refl) (λ j. refl) unread) follows
+
 -- how a node stands after these calls
-abbrev stands_at : {C S : Type 0} → (C → C → Ordering) → Wire C S → Setup C S → List (Call C S) → Standing C S
+abbrev pub stands_at : {C S : Type 0} → (C → C → Ordering) → Wire C S → Setup C S → List (Call C S) → Standing C S
 stands_at cmp wire given calls = standing_in (made_of cmp given) wire (world_after (made_of cmp given).directory calls)
 
 -- WHAT COMES OF A FRAME, by what is seen of it
@@ -184,6 +212,7 @@ module _ {C S : Type 0} (cmp : C → C → Ordering) (wire : Wire C S) (node : N
   breaks_next breach.NoGreeting blocked tells shares = (tells.0, tells.1, tells.2 blocked shares)
   breaks_next breach.OtherGreeting blocked tells shares = (tells.0, tells.1, tells.2 blocked shares)
   breaks_next breach.SecondGreeting blocked tells shares = tells
+  breaks_next breach.FrameLength blocked tells shares = (tells.0, tells.1, tells.2 blocked shares)
   breaks_next (breach.Codec fault) blocked tells shares = (tells.0, tells.1, tells.2 blocked shares)
   breaks_next breach.Malformed blocked tells shares = (tells.0, tells.1, tells.2 blocked shares)
   breaks_next (breach.Invalid e) blocked tells shares = (tells.0, tells.1, tells.2 blocked shares)
@@ -241,6 +270,7 @@ pub record FoundOn {C S : Type 0} (cmp : C → C → Ordering) (wire : Wire C S)
   pub number : held.number ≡ n
   pub owed_is : held.owed ≡ owed
   pub none : held.waiting ≡ None
+  pub expected : is_expected frame held ≡ true
   pub is_seen : SeenIn cmp wire held.phase p held.owed frame wall c v.node
 
 pub found_on : {C S : Type 0} (cmp : C → C → Ordering) (wire : Wire C S) (n : ℕ) (p : C) (owed : ℕ) (frame : List ℕ)
@@ -248,7 +278,8 @@ pub found_on : {C S : Type 0} (cmp : C → C → Ordering) (wire : Wire C S) (n 
 found_on cmp wire n p owed frame wall c v on = go (link_of cmp v.links p) refl on
   where
     go : (o : Option Held) → link_of cmp v.links p ≡ o → IsSomeAnd o (λ held. (held.number ≡ n) × (held.owed ≡ owed)
-        × (held.waiting ≡ None) × SeenIn cmp wire held.phase p owed frame wall c v.node) → FoundOn cmp wire n p owed frame wall c v
+        × (held.waiting ≡ None) × (is_expected frame held ≡ true)
+        × SeenIn cmp wire held.phase p owed frame wall c v.node) → FoundOn cmp wire n p owed frame wall c v
     go None is on = absurd on
     go (Some held) is on = record {
       held = held;
@@ -256,7 +287,8 @@ found_on cmp wire n p owed frame wall c v on = go (link_of cmp v.links p) refl o
       number = on.0;
       owed_is = on.1;
       none = on.2;
-      is_seen = subst (λ k. SeenIn cmp wire held.phase p k frame wall c v.node) (sym on.1) on.3;
+      expected = on.3;
+      is_seen = subst (λ k. SeenIn cmp wire held.phase p k frame wall c v.node) (sym on.1) on.4;
     }
 
 -- .. of a driver by its parts, where the frame is this
@@ -278,17 +310,39 @@ delivered C S frame channel start end m is long = (
 -- a link that there is, of which nothing waits, and what is seen of a frame
 pub came_on : {C S : Type 0} (cmp : C → C → Ordering) (wire : Wire C S) (n : ℕ) (p : C) (owed : ℕ) (frame : List ℕ)
     (wall : Duration) (c : Came) (v w : DriverView C S) (held : Held) → v ≡ w → link_of cmp v.links p ≡ Some held → held.number ≡ n → held.owed ≡ owed →
-    held.waiting ≡ None → SeenIn cmp wire held.phase p owed frame wall c v.node → CameOn cmp wire n p owed frame wall c w
-came_on cmp wire n p owed frame wall c v w held same linked number owed_is none is_seen =
+    held.waiting ≡ None → is_expected frame held ≡ true → SeenIn cmp wire held.phase p owed frame wall c v.node → CameOn cmp wire n p owed frame wall c w
+came_on cmp wire n p owed frame wall c v w held same linked number owed_is none expected is_seen =
     subst (λ x. CameOn cmp wire n p owed frame wall c x) same
     (subst (λ o. IsSomeAnd o (λ held. (held.number ≡ n) × (held.owed ≡ owed)
-    × (held.waiting ≡ None) × SeenIn cmp wire held.phase p owed frame wall c v.node)) (sym linked) (number, owed_is, none, is_seen))
+    × (held.waiting ≡ None) × (is_expected frame held ≡ true)
+    × SeenIn cmp wire held.phase p owed frame wall c v.node)) (sym linked) (number, owed_is, none, expected, is_seen))
+
+-- what is kept of a link, by how it was found
+pub linked_as : {C : Type 0} (cmp : C → C → Ordering) (links : List (C × Held)) (p : C) (held : Held) (n : ℕ) → link_of cmp links p ≡ Some held →
+    IsSomeAnd (link_of cmp links p) (λ h. h.number ≡ n) → held.number ≡ n
+linked_as cmp links p held n linked numbered = subst (λ o. IsSomeAnd o (λ h. h.number ≡ n)) linked numbered
+
+-- a frame on a link that isn't closed is the one that may be handed in, if it isn't said that it isn't
+pub expected_in : (frame : List ℕ) (held : Held) (ph : Phase) → held.phase ≡ ph → is_timed ph ≡ true → is_unexpected frame held ≡ false →
+    is_expected frame held ≡ true
+expected_in frame held ph is timed isnt = go (is_expected frame held) refl
+    (sym (ap (λ b. b && not (is_expected frame held)) (ap is_timed is ∙ timed)) ∙ isnt)
+  where
+    go : (b : Bool) → is_expected frame held ≡ b → (true && not b) ≡ false → b ≡ true
+    go true at same = refl
+    go false at same = absurd cc
+
+-- a link has the number, by how it was found
+pub has_link : {C S : Type 0} (cmp : C → C → Ordering) (n : ℕ) (P : Held → Type 0) (v w : DriverView C S) → v ≡ w → (p : C) (held : Held) →
+    link_of cmp v.links p ≡ Some held → IsSomeAnd (link_of cmp v.links p) (λ h. h.number ≡ n) → P held → HasLink cmp n w P
+has_link cmp n P v w same p held linked numbered is = subst (λ x. HasLink cmp n x P) same
+    (p, held, linked, linked_as cmp v.links p held n linked numbered, is)
 
 -- a frame that found no memory leaves all as it was
 pub dropped : {C S : Type 0} (cmp : C → C → Ordering) (wire : Wire C S) (n : ℕ) (p : C) (owed : ℕ) (frame : List ℕ)
     (wall : Duration) (c : Came) (now : ℕ) (v v2 : DriverView C S) → (f : FoundOn cmp wire n p owed frame wall c v) →
     IsRead f.held.phase f.held.owed frame → v2 ≡ v → AnswersFrame cmp wire n frame wall now (admission.Heard heard.Dropped) v v2
-dropped cmp wire n p owed frame wall c now v v2 f read same = (same, (p, f.held, f.linked, f.number, (f.none, read)))
+dropped cmp wire n p owed frame wall c now v v2 f read same = (same, (p, f.held, f.linked, f.number, (f.none, f.expected, read)))
 
 pub served_read : {C S : Type 0} (cmp : C → C → Ordering) (wire : Wire C S) (n : ℕ) (p : C) (owed : ℕ) (frame : List ℕ)
     (wall : Duration) (v : DriverView C S) → (f : FoundOn cmp wire n p owed frame wall came.Served v) → IsRead f.held.phase f.held.owed frame
@@ -297,15 +351,10 @@ served_read cmp wire n p owed frame wall v f = let is = served_open cmp wire v.n
 
 -- parts that are as they were
 pub same_parts : {C S : Type 0} (node node2 : NodeView C S) (pace : Pace) (greeting : List ℕ) (cooldown latest next : ℕ) (arrivals : List (Arrival C))
-    (answers : AnswersView) (links : List (C × Held)) (actions actions2 : List (Action C)) → node2 ≡ node → actions2 ≡ actions →
-    seen node2 pace greeting cooldown latest next arrivals answers links actions2 ≡ seen node pace greeting cooldown latest next arrivals answers links actions
-same_parts node node2 pace greeting cooldown latest next arrivals answers links actions actions2 same said i =
-    seen (same i) pace greeting cooldown latest next arrivals answers links (said i)
-
--- what is kept of a link, by how it was found
-pub linked_as : {C : Type 0} (cmp : C → C → Ordering) (links : List (C × Held)) (p : C) (held : Held) (n : ℕ) → link_of cmp links p ≡ Some held →
-    IsSomeAnd (link_of cmp links p) (λ h. h.number ≡ n) → held.number ≡ n
-linked_as cmp links p held n linked numbered = subst (λ o. IsSomeAnd o (λ h. h.number ≡ n)) linked numbered
+    (answers : AnswersView) (reads : List (ℕ × MetersView)) (links : List (C × Held)) (actions actions2 : List (Action C)) → node2 ≡ node → actions2 ≡ actions →
+    seen node2 pace greeting cooldown latest next arrivals answers reads links actions2 ≡ seen node pace greeting cooldown latest next arrivals answers reads links actions
+same_parts node node2 pace greeting cooldown latest next arrivals answers reads links actions actions2 same said i =
+    seen (same i) pace greeting cooldown latest next arrivals answers reads links (said i)
 
 -- one more is said after those that were said
 pub said_then : {X : Type 0} (xs ys zs says : List X) → ys ≡ xs → zs ≡ ys ++ says → zs ≡ xs ++ says
@@ -342,14 +391,14 @@ bare cmp node P each given calls at = each given calls (slotted at)
 
 -- WHAT A DRIVER DOES OF A FRAME
 module _ {C S : Type 0} (cmp : C → C → Ordering) (wire : Wire C S) (node : NodeView C S) (pace : Pace)
-    (greeting : List ℕ) (cooldown latest next : ℕ) (arrivals : List (Arrival C)) (answers : AnswersView)
+    (greeting : List ℕ) (cooldown latest next : ℕ) (arrivals : List (Arrival C)) (answers : AnswersView) (reads : List (ℕ × MetersView))
     (links : List (C × Held)) (actions : List (Action C)) (n : ℕ) (p : C) (owed : ℕ) (frame : List ℕ) (wall t : Duration)
     (after : latest ≤ as_nanos t) where
   abbrev stood : DriverView C S
-  stood = seen node pace greeting cooldown latest next arrivals answers links actions
+  stood = seen node pace greeting cooldown latest next arrivals answers reads links actions
 
   abbrev left : NodeView C S → List (C × Held) → List (Action C) → DriverView C S
-  left node2 links2 actions2 = seen node2 pace greeting cooldown (as_nanos t) next arrivals answers links2 actions2
+  left node2 links2 actions2 = seen node2 pace greeting cooldown (as_nanos t) next arrivals answers reads links2 actions2
 
   abbrev Found : Came → Type 0
   Found c = FoundOn cmp wire n p owed frame wall c stood
@@ -365,45 +414,45 @@ module _ {C S : Type 0} (cmp : C → C → Ordering) (wire : Wire C S) (node : N
     -- it waits
     pub waits_on : (w : Waiting) (owed2 : ℕ) → Found (came.Waits w) → owed2 ≡ owed - 1 → KeptAs (hearing t owed2 (Some w)) links2 → actions2 ≡ actions →
         Does cmp wire (Happening.Heard n p t owed2 (OfFrame frame wall) (Outcome.Waits w)) stood (left node links2 actions2)
-    waits_on w owed2 f less kept same = hears cmp wire node pace greeting cooldown latest next arrivals answers links actions n p f.held t owed2
+    waits_on w owed2 f less kept same = hears cmp wire node pace greeting cooldown latest next arrivals answers reads links actions n p f.held t owed2
         (OfFrame frame wall) (Outcome.Waits w) node links2 actions2 f.linked f.number after
-        (waits_out cmp wire stood.node p f.held frame wall f.none w f.is_seen) (less ∙ ap (λ k. k - 1) (sym f.owed_is))
-        (λ given calls at. tt) unmade (record { links_are = kept; count = count; said = said_none actions actions2 same })
+        (waits_out cmp wire stood.node p f.held frame wall f.none w f.is_seen) (λ given pace2 h at. f.expected) (less ∙ ap (λ k. k - 1) (sym f.owed_is))
+        (λ given calls at. tt) unmade (λ j place. refl) (record { links_are = kept; count = count; said = said_none actions actions2 same })
 
     -- it is ignored
     pub ignores_on : Found came.Ignored → KeptAs (hearing t owed None) links2 → actions2 ≡ actions →
         Does cmp wire (Happening.Heard n p t owed (OfFrame frame wall) Outcome.Ignores) stood (left node links2 actions2)
-    ignores_on f kept same = hears cmp wire node pace greeting cooldown latest next arrivals answers links actions n p f.held t owed
+    ignores_on f kept same = hears cmp wire node pace greeting cooldown latest next arrivals answers reads links actions n p f.held t owed
         (OfFrame frame wall) Outcome.Ignores node links2 actions2 f.linked f.number after
-        (ignores_out cmp wire stood.node p f.held frame wall f.none f.is_seen) (sym f.owed_is)
-        (λ given calls at. tt) unmade (record { links_are = kept; count = count; said = said_none actions actions2 same })
+        (ignores_out cmp wire stood.node p f.held frame wall f.none f.is_seen) (λ given pace2 h at. f.expected) (sym f.owed_is)
+        (λ given calls at. tt) unmade (λ j place. refl) (record { links_are = kept; count = count; said = said_none actions actions2 same })
 
     -- a message is delivered
     pub delivers_on : (message : Data) (held : Held) → link_of cmp links p ≡ Some held → held.number ≡ n →
-        held.owed ≡ owed → Outs cmp wire stood.node p held (OfFrame frame wall) (Outcome.Delivers message) → KeptAs (hearing t owed None) links2 → actions2 ≡ actions →
+        held.owed ≡ owed → is_expected frame held ≡ true → Outs cmp wire stood.node p held (OfFrame frame wall) (Outcome.Delivers message) → KeptAs (hearing t owed None) links2 → actions2 ≡ actions →
         Does cmp wire (Happening.Heard n p t owed (OfFrame frame wall) (Outcome.Delivers message)) stood (left node links2 actions2)
-    delivers_on message held linked number owed_is out kept same = hears cmp wire node pace greeting cooldown latest next arrivals answers links actions n p held t owed
-        (OfFrame frame wall) (Outcome.Delivers message) node links2 actions2 linked number after out (sym owed_is)
-        (λ given calls at. tt) unmade (record { links_are = kept; count = count; said = said_none actions actions2 same })
+    delivers_on message held linked number owed_is expected out kept same = hears cmp wire node pace greeting cooldown latest next arrivals answers reads links actions n p held t owed
+        (OfFrame frame wall) (Outcome.Delivers message) node links2 actions2 linked number after out (λ given pace2 h at. expected) (sym owed_is)
+        (λ given calls at. tt) unmade (λ j place. refl) (record { links_are = kept; count = count; said = said_none actions actions2 same })
 
   -- an info is of the future
   pub early_on : (links2 : List (C × Held)) (actions2 : List (Action C)) → Found came.Early →
       Follows {S = S} cmp n p t owed Outcome.IsEarly links links2 actions actions2 →
       Does cmp wire (Happening.Heard n p t owed (OfFrame frame wall) Outcome.IsEarly) stood (left node links2 actions2)
-  early_on links2 actions2 f follows = hears cmp wire node pace greeting cooldown latest next arrivals answers links actions n p f.held t owed
+  early_on links2 actions2 f follows = hears cmp wire node pace greeting cooldown latest next arrivals answers reads links actions n p f.held t owed
       (OfFrame frame wall) Outcome.IsEarly node links2 actions2 f.linked f.number after
-      (early_out cmp wire stood.node p f.held frame wall f.none f.is_seen) (sym f.owed_is)
-      (λ given calls at. tt) unmade follows
+      (early_out cmp wire stood.node p f.held frame wall f.none f.is_seen) (λ given pace2 h at. f.expected) (sym f.owed_is)
+      (λ given calls at. tt) unmade (λ j place. refl) follows
 
   -- a rule is broken
   pub breaks_on : (x : Breach) (blocked : Option Bool) (node2 : NodeView C S) (links2 : List (C × Held)) (actions2 : List (Action C)) → Found (came.Breach x) →
       MakesFor cmp p t (Outcome.Breaks x blocked) node node2 → IsBlocked cmp p (as_nanos t) blocked node →
       Follows {S = S} cmp n p t owed (Outcome.Breaks x blocked) links links2 actions actions2 →
       Does cmp wire (Happening.Heard n p t owed (OfFrame frame wall) (Outcome.Breaks x blocked)) stood (left node2 links2 actions2)
-  breaks_on x blocked node2 links2 actions2 f made blocks follows = hears cmp wire node pace greeting cooldown latest next arrivals answers links actions n p f.held t owed
+  breaks_on x blocked node2 links2 actions2 f made blocks follows = hears cmp wire node pace greeting cooldown latest next arrivals answers reads links actions n p f.held t owed
       (OfFrame frame wall) (Outcome.Breaks x blocked) node2 links2 actions2 f.linked f.number after
-      (breaks_out cmp wire stood.node p f.held frame wall f.none x blocked f.is_seen) (sym f.owed_is)
-      (blocked_done cmp wire node p t x blocked blocks) made follows
+      (breaks_out cmp wire stood.node p f.held frame wall f.none x blocked f.is_seen) (λ given pace2 h at. f.expected) (sym f.owed_is)
+      (blocked_done cmp wire node p t x blocked blocks) made (λ j place. refl) follows
 
   -- what is served is of a peer that has greeted, and its node may answer it
   pub servable_on : Found came.Served → IsServable wire node.limits frame
@@ -415,15 +464,16 @@ module _ {C S : Type 0} (cmp : C → C → Ordering) (wire : Wire C S) (node : N
       ComesOf cmp wire l j shares frame wall outcome → ComesNext cmp wire l j shares owed frame wall outcome) →
       IsServed cmp wire frame wall outcome node → owed ≡ owed_after f.held.phase outcome pace.owed f.held.owed →
       AtEach cmp node (λ m calls. IsDone wire m pace.refresh f.held.asked calls p t outcome) → MakesFor cmp p t outcome node node2 →
+      ((j : ℕ) (place : Option ℕ) → read_by j place (Happening.Heard n p t owed (OfFrame frame wall) outcome) ≡ []) →
       Follows cmp n p t owed outcome links links2 actions actions2 →
       Does cmp wire (Happening.Heard n p t owed (OfFrame frame wall) outcome) stood (left node2 links2 actions2)
-  serves_on outcome node2 links2 actions2 f next_is served owes done made follows =
+  serves_on outcome node2 links2 actions2 f next_is served owes done made unread follows =
       let is = served_open cmp wire stood.node p f.held frame wall f.none f.is_seen in
-      hears cmp wire node pace greeting cooldown latest next arrivals answers links actions n p f.held t owed
+      hears cmp wire node pace greeting cooldown latest next arrivals answers reads links actions n p f.held t owed
       (OfFrame frame wall) outcome node2 links2 actions2 f.linked f.number after
       (served_out cmp wire stood.node p f.held frame wall f.none outcome is.0 (λ l j shares comes. next_is f.held.owed l j shares is.1 is.2 comes)
       (bare cmp node (λ m calls. let x = standing_in m wire (world_after m.directory calls) in
-      ComesOf cmp wire x.limits x.judge x.infos frame wall outcome) served)) owes done made follows
+      ComesOf cmp wire x.limits x.judge x.infos frame wall outcome) served)) (λ given pace2 h at. f.expected) owes done made unread follows
 
 -- WHAT IS RETURNED
 module _ {C S : Type 0} (cmp : C → C → Ordering) (wire : Wire C S) {v w v2 : DriverView C S} (same : v ≡ w) where

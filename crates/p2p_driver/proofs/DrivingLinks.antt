@@ -1,5 +1,5 @@
 -- How the calls of a driver that begin and end links make it stand, by its parts.
-use Rattle.std.proofs.Common.{◌≡◌, Bool, true, false, not, ◌&&◌, nat_lt, Option, Some, None, find, filter, ℕ, ◌+◌, ◌≤◌, List, [], ◌∷◌, ◌++◌, refl, sym, ◌∙◌, ap, subst}
+use Rattle.std.proofs.Common.{◌≡◌, Bool, true, false, not, ◌&&◌, nat_lt, Option, Some, None, find, filter, ℕ, ◌==◌, ◌+◌, ◌≤◌, List, [], ◌∷◌, ◌++◌, refl, sym, ◌∙◌, ap, subst}
 use Rattle.std.specs.Prelude.{max, length, is_some, if◌then◌else◌, Ok, Err}
 use Rattle.std.specs.Option.{IsSomeAnd, option_to_list}
 use Rattle.std.specs.BTreeMap.{is_at}
@@ -20,6 +20,8 @@ use Rattle.p2p_driver.specs.Arrivals.{has_number}
 use Rattle.p2p_driver.specs.Drivers.{DriverView, DriverStands, DriverStandsAt, Does, AtEachHistory, may_come, no_proof, is_claim_by, AnswersProof, ProvedBy, AnswersEnd, EndedBy, AnswersNext, seen, base_of, jitter_of}
 use Rattle.p2p_driver.specs.Happenings.{Happening, closing, sent, parted, calls_of, stream_at}
 use Rattle.p2p_driver.specs.Links.{link_of, link_with}
+use Rattle.p2p_driver.specs.Meters.{MetersView}
+use Rattle.p2p_driver.specs.Reads.{reads_of, unread}
 use Rattle.p2p_driver.specs.Steps.{comes_by, is_claim_of, no_proof_of, Makes, MayListen, IsBusy}
 use Rattle.p2p_driver.specs.declared.actions.Action.{Action}
 use Rattle.p2p_driver.specs.declared.actions.Why.{Why}
@@ -29,6 +31,7 @@ use Rattle.p2p_driver.specs.declared.pace.Pace.{Pace}
 use Rattle.p2p_driver.proofs.Busy.{linked_is_busy_anywhere}
 use Rattle.p2p_driver.proofs.Driving.{viewed, slotted, comes_is, goes_on, unslotted}
 use Rattle.p2p_driver.proofs.Fewer.{none_of}
+use Rattle.p2p_driver.proofs.Lasting.{unread_by}
 use Rattle.p2p_driver.proofs.Standing
 use Rattle.p2p_driver.proofs.Unused.{unused_by}
 
@@ -60,9 +63,9 @@ module _ {C : Type 0} (cmp : C → C → Ordering) (pace : Pace) (links : List (
       (last_two (not (is_some (link_of cmp links p))) granted rest.1).1
 
 module _ {C S : Type 0} (node : NodeView C S) (pace : Pace) (greeting : List ℕ) (cooldown latest next : ℕ)
-    (arrivals : List (Arrival C)) (answers : AnswersView) (links : List (C × Held)) (actions : List (Action C)) where
+    (arrivals : List (Arrival C)) (answers : AnswersView) (reads : List (ℕ × MetersView)) (links : List (C × Held)) (actions : List (Action C)) where
   abbrev v : DriverView C S
-  v = seen node pace greeting cooldown latest next arrivals answers links actions
+  v = seen node pace greeting cooldown latest next arrivals answers reads links actions
 
   -- what decides whether a stream becomes a link
   abbrev pub NoProofIs : (C → C → Ordering) → Arrival C → C → Duration → Option Why → Type 0
@@ -75,7 +78,7 @@ module _ {C S : Type 0} (node : NodeView C S) (pace : Pace) (greeting : List ℕ
       why ≡ no_proof (base_of cmp wire given pace2) h n p (as_nanos t)
   no_proof_is cmp wire given pace2 h at n stream p t why here is = is given (calls_of h) (slotted at.node)
       ∙ ap (λ x. no_proof_of (is_claim_of cmp p stream.claim) x)
-      (comes_is node pace greeting cooldown latest next arrivals answers links actions (base_of cmp wire given pace2) h at p _)
+      (comes_is node pace greeting cooldown latest next arrivals answers reads links actions (base_of cmp wire given pace2) h at p _)
       ∙ ap (λ o. no_proof_of (is_claim_by cmp p o) (may_come (base_of cmp wire given pace2) h p (as_nanos t))) here
 
   -- who becomes a link may come
@@ -83,12 +86,12 @@ module _ {C S : Type 0} (node : NodeView C S) (pace : Pace) (greeting : List ℕ
   may_by cmp stream p t is given calls stands = comes_granted cmp pace links p _ (both_true _ _ (is given calls stands)).1
 
   -- a link that wasn't begun leaves all that is seen
-  pub failed_view : (node2 : NodeView C S) (links2 : List (C × Held)) (actions2 : List (Action C)) →
-      IsSame node node2 → links2 ≡ links → actions2 ≡ actions →
-      seen node2 pace greeting cooldown latest next arrivals answers links2 actions2 ≡ v
-  failed_view node2 links2 actions2 same tied said = sym (viewed v node2 pace greeting cooldown latest next arrivals answers
+  pub failed_view : (node2 : NodeView C S) (reads2 : List (ℕ × MetersView)) (links2 : List (C × Held)) (actions2 : List (Action C)) →
+      IsSame node node2 → reads2 ≡ reads → links2 ≡ links → actions2 ≡ actions →
+      seen node2 pace greeting cooldown latest next arrivals answers reads2 links2 actions2 ≡ v
+  failed_view node2 reads2 links2 actions2 same unread tied said = sym (viewed v node2 pace greeting cooldown latest next arrivals answers reads2
       links2 actions2 (sym (ap (λ (m : NodeView C S). record m { slots = [] }) same)) refl refl refl refl refl refl refl
-      (sym tied) (sym said))
+      (sym unread) (sym tied) (sym said))
 
   -- nothing stood against it
   pub nothing_against : (cmp : C → C → Ordering) (wire : Wire C S) (n : ℕ) (stream : Arrival C) (p : C) (t : Duration) (now : ℕ) → find (has_number n) arrivals ≡ Some stream →
@@ -109,21 +112,26 @@ module _ {C S : Type 0} (node : NodeView C S) (pace : Pace) (greeting : List ℕ
     unused_here at n some q held is number =
         unused_by (base_of cmp wire at.given at.pace) at.history v at.stands n some q held is number
 
+    -- nothing is kept of a link with the number of a stream that isn't proved
+    pub unread_at : DriverStands cmp wire v → (n : ℕ) → is_some (find (has_number n) arrivals) ≡ true → reads_of reads n ≡ None
+    unread_at at n some = unread_by (base_of cmp wire at.given at.pace) at.history v at.stands n some
+
     pub busy_here : CmpEqualImpliesEq cmp → DriverStands cmp wire v → (p : C) → is_some (link_of cmp links p) ≡ true → IsBusy cmp p node
     busy_here exact at p linked given calls stands =
         linked_is_busy_anywhere cmp wire exact v at p linked given calls (unslotted stands)
 
     -- a stream is a link
-    pub proves_by : (n : ℕ) (stream : Arrival C) (p : C) (t draw : Duration) (node2 : NodeView C S) (links2 : List (C × Held))
+    pub proves_by : (n : ℕ) (stream : Arrival C) (p : C) (t draw : Duration) (node2 : NodeView C S) (reads2 : List (ℕ × MetersView)) (links2 : List (C × Held))
         (xs : List (Arrival C)) (answers2 : AnswersView) (actions2 : List (Action C)) → find (has_number n) arrivals ≡ Some stream →
         NoProofIs cmp stream p t None → latest ≤ as_nanos t →
         Makes cmp (Listen p (as_nanos t) (as_nanos draw) ∷ []) node node2 →
+        ((j : ℕ) → reads_of reads2 j ≡ (if j == n then Some (unread (length pace.channels.items)) else reads_of reads j)) →
         ((q : C) → link_of cmp links2 q ≡ (if is_at (cmp p) q then Some (link_with n t) else link_of cmp links q)) →
         length links2 ≡ length links + 1 → xs ≡ filter (λ a. not (has_number n a)) arrivals →
         roomless answers2 ≡ roomless answers → actions2 ≡ actions ++ sent n greeting →
         Does cmp wire (Happening.Proved n p t draw) v
-        (seen node2 pace greeting cooldown (as_nanos t) next xs answers2 links2 actions2)
-    proves_by n stream p t draw node2 links2 xs answers2 actions2 found decides after made tied more streams same said = record {
+        (seen node2 pace greeting cooldown (as_nanos t) next xs answers2 reads2 links2 actions2)
+    proves_by n stream p t draw node2 reads2 links2 xs answers2 actions2 found decides after made empty tied more streams same said = record {
       goes = λ given pace2 h at.
           let b = base_of cmp wire given pace2 in
           let here = sym found ∙ at.arrivals.each n in
@@ -133,13 +141,14 @@ module _ {C S : Type 0} (node : NodeView C S) (pace : Pace) (greeting : List ℕ
             node = record node2 { slots = [] };
             latest = as_nanos t;
             arrivals = filter (λ a. not (has_number n a)) arrivals;
+            reads = reads2;
             links = links2;
             actions = actions ++ sent n greeting;
           })
-          node2 pace greeting cooldown (as_nanos t) next xs answers2 links2 actions2
-          refl refl refl refl refl refl (sym streams) (sym same) refl (sym said))
-          (Standing.proves b h v at n p t draw (record node2 { slots = [] }) links2 (roomless answers) both after
-          (unslotted (made given (calls_of h) (slotted at.node))) tied more
+          node2 pace greeting cooldown (as_nanos t) next xs answers2 reads2 links2 actions2
+          refl refl refl refl refl refl (sym streams) (sym same) refl refl (sym said))
+          (Standing.proves b h v at n p t draw (record node2 { slots = [] }) reads2 links2 (roomless answers) both after
+          (unslotted (made given (calls_of h) (slotted at.node))) empty tied more
           (Standing.answers_later b h v at (as_nanos t) after));
     }
 
@@ -149,17 +158,17 @@ module _ {C S : Type 0} (node : NodeView C S) (pace : Pace) (greeting : List ℕ
         NoProofIs cmp stream p t (Some w) → latest ≤ as_nanos t → xs ≡ filter (λ a. not (has_number n a)) arrivals →
         roomless answers2 ≡ roomless answers → actions2 ≡ actions ++ closing n w →
         Does cmp wire (Happening.Unproved n p t w) v
-        (seen node pace greeting cooldown (as_nanos t) next xs answers2 links actions2)
+        (seen node pace greeting cooldown (as_nanos t) next xs answers2 reads links actions2)
     unproves_by n stream p t w xs answers2 actions2 found decides after streams same said = record {
       goes = λ given pace2 h at.
           let b = base_of cmp wire given pace2 in
           let here = sym found ∙ at.arrivals.each n in
           subst (DriverStandsAt b (Happening.Unproved n p t w ∷ h))
           (viewed (record v { latest = as_nanos t; arrivals = filter (λ a. not (has_number n a)) arrivals; actions = actions ++ closing n w })
-          node pace greeting cooldown (as_nanos t) next xs answers2 links actions2
-          refl refl refl refl refl refl (sym streams) (sym same) refl (sym said))
+          node pace greeting cooldown (as_nanos t) next xs answers2 reads links actions2
+          refl refl refl refl refl refl (sym streams) (sym same) refl refl (sym said))
           (Standing.goes b h v at n t (Happening.Unproved n p t w) (closing n w) (roomless answers)
-          refl (λ j. refl) (λ j. refl) (λ j. refl) refl refl (λ q. refl) (λ q. refl) (λ q. refl) refl refl refl refl refl
+          refl (λ j. refl) (λ j. refl) (λ j. refl) refl refl (λ q. refl) (λ q. refl) (λ q. refl) refl refl refl refl refl (λ j. refl) (λ j. refl) (λ j place. refl)
           (ap (λ o. is_some o) (sym here), sym (no_proof_is cmp wire given pace2 h at n stream p t (Some w) here decides))
           after (Standing.answers_later b h v at (as_nanos t) after));
     }
@@ -168,65 +177,67 @@ module _ {C S : Type 0} (node : NodeView C S) (pace : Pace) (greeting : List ℕ
     pub leaves_as : (n : ℕ) (t : Duration) (xs : List (Arrival C)) (answers2 : AnswersView) (actions2 : List (Action C)) →
         is_some (find (has_number n) arrivals) ≡ true → latest ≤ as_nanos t →
         xs ≡ filter (λ a. not (has_number n a)) arrivals → roomless answers2 ≡ roomless answers → actions2 ≡ actions →
-        Does cmp wire (Happening.Left n t) v (seen node pace greeting cooldown (as_nanos t) next xs answers2 links actions2)
+        Does cmp wire (Happening.Left n t) v (seen node pace greeting cooldown (as_nanos t) next xs answers2 reads links actions2)
     leaves_as n t xs answers2 actions2 some after streams same said = record {
       goes = λ given pace2 h at.
           let b = base_of cmp wire given pace2 in
           subst (DriverStandsAt b (Happening.Left n t ∷ h))
           (viewed (record v { latest = as_nanos t; arrivals = filter (λ a. not (has_number n a)) arrivals; actions = actions ++ [] })
-          node pace greeting cooldown (as_nanos t) next xs answers2 links actions2
-          refl refl refl refl refl refl (sym streams) (sym same) refl (append-nil actions ∙ sym said))
+          node pace greeting cooldown (as_nanos t) next xs answers2 reads links actions2
+          refl refl refl refl refl refl (sym streams) (sym same) refl refl (append-nil actions ∙ sym said))
           (Standing.goes b h v at n t (Happening.Left n t) [] (roomless answers)
-          refl (λ j. refl) (λ j. refl) (λ j. refl) refl refl (λ q. refl) (λ q. refl) (λ q. refl) refl refl refl refl refl
+          refl (λ j. refl) (λ j. refl) (λ j. refl) refl refl (λ q. refl) (λ q. refl) (λ q. refl) refl refl refl refl refl (λ j. refl) (λ j. refl) (λ j place. refl)
           (ap (λ o. is_some o) (sym (at.arrivals.each n)) ∙ some)
           after (Standing.answers_later b h v at (as_nanos t) after));
     }
 
     -- a link ended
-    pub ends_as : (n : ℕ) (p : C) (t : Duration) (node2 : NodeView C S) (links2 : List (C × Held)) (actions2 : List (Action C)) →
+    pub ends_as : (n : ℕ) (p : C) (t : Duration) (node2 : NodeView C S) (reads2 : List (ℕ × MetersView)) (links2 : List (C × Held)) (actions2 : List (Action C)) →
         IsSomeAnd (link_of cmp links p) (λ held. held.number ≡ n) → latest ≤ as_nanos t →
         Makes cmp (Release p ∷ []) node node2 →
+        ((j : ℕ) → reads_of reads2 j ≡ (if j == n then None else reads_of reads j)) →
         ((q : C) → link_of cmp links2 q ≡ (if is_at (cmp p) q then None else link_of cmp links q)) →
         length links2 + 1 ≡ length links → actions2 ≡ actions ++ parted p (link_of cmp links p) →
-        Does cmp wire (Happening.Ended n p t) v (seen node2 pace greeting cooldown (as_nanos t) next arrivals answers links2 actions2)
-    ends_as n p t node2 links2 actions2 linked after made tied less said = record {
+        Does cmp wire (Happening.Ended n p t) v (seen node2 pace greeting cooldown (as_nanos t) next arrivals answers reads2 links2 actions2)
+    ends_as n p t node2 reads2 links2 actions2 linked after made gone tied less said = record {
       goes = λ given pace2 h at.
           let b = base_of cmp wire given pace2 in
           subst (DriverStandsAt b (Happening.Ended n p t ∷ h))
           (viewed (record v {
             node = record node2 { slots = [] };
             latest = as_nanos t;
+            reads = reads2;
             links = links2;
             actions = actions ++ parted p (link_of cmp links p);
           })
-          node2 pace greeting cooldown (as_nanos t) next arrivals answers links2 actions2
-          refl refl refl refl refl refl refl refl refl (sym said))
-          (Standing.ends b h v at n p t (record node2 { slots = [] }) links2
+          node2 pace greeting cooldown (as_nanos t) next arrivals answers reads2 links2 actions2
+          refl refl refl refl refl refl refl refl refl refl (sym said))
+          (Standing.ends b h v at n p t (record node2 { slots = [] }) reads2 links2
           (subst (λ o. IsSomeAnd o (λ held. held.number ≡ n)) (at.links p) linked) after
-          (unslotted (made given (calls_of h) (slotted at.node))) tied less);
+          (unslotted (made given (calls_of h) (slotted at.node))) gone tied less);
     }
 
     -- the host took an action
     pub takes_as : (a : Action C) (later : List (Action C)) → actions ≡ a ∷ later →
-        Does cmp wire (Happening.Taken a) v (seen node pace greeting cooldown latest next arrivals answers links later)
+        Does cmp wire (Happening.Taken a) v (seen node pace greeting cooldown latest next arrivals answers reads links later)
     takes_as a later is = record { goes = λ given pace2 h at. Standing.takes (base_of cmp wire given pace2) h v at a later is }
 
     -- .. or there was none
     pub takes_on : (o : Option (Action C)) (later : List (Action C)) → DriverStands cmp wire v →
         option_to_list o ++ later ≡ actions → (o ≡ None → actions ≡ []) →
-        DriverStands cmp wire (seen node pace greeting cooldown latest next arrivals answers links later)
-    takes_on None later at is none = subst (λ xs. DriverStands cmp wire (seen node pace greeting cooldown latest next arrivals answers links xs))
+        DriverStands cmp wire (seen node pace greeting cooldown latest next arrivals answers reads links later)
+    takes_on None later at is none = subst (λ xs. DriverStands cmp wire (seen node pace greeting cooldown latest next arrivals answers reads links xs))
         (sym is) at
     takes_on (Some a) later at is none = goes_on (Happening.Taken a) v _ at (takes_as a later (sym is))
 
   pub takes_answered : (cmp : C → C → Ordering) (wire : Wire C S) (w : DriverView C S) (o : Option (Action C))
       (later : List (Action C)) → v ≡ w → option_to_list o ++ later ≡ actions → (o ≡ None → actions ≡ []) →
-      AnswersNext cmp wire o w (seen node pace greeting cooldown latest next arrivals answers links later)
+      AnswersNext cmp wire o w (seen node pace greeting cooldown latest next arrivals answers reads links later)
   takes_answered cmp wire w None later same is none = subst (λ x. AnswersNext cmp wire None x
-      (seen node pace greeting cooldown latest next arrivals answers links later)) same
-      (none refl, ap (λ xs. seen node pace greeting cooldown latest next arrivals answers links xs) is)
+      (seen node pace greeting cooldown latest next arrivals answers reads links later)) same
+      (none refl, ap (λ xs. seen node pace greeting cooldown latest next arrivals answers reads links xs) is)
   takes_answered cmp wire w (Some a) later same is none = subst (λ x. AnswersNext cmp wire (Some a) x
-      (seen node pace greeting cooldown latest next arrivals answers links later)) same (takes_as a later (sym is))
+      (seen node pace greeting cooldown latest next arrivals answers reads links later)) same (takes_as a later (sym is))
 
 -- how `proved` is answered: it's a link
 module _ {C S : Type 0} (cmp : C → C → Ordering) (wire : Wire C S) (n : ℕ) (p : C) (word now : ℕ) (v w v2 : DriverView C S) where

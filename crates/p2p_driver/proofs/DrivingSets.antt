@@ -14,6 +14,7 @@ use Rattle.p2p_driver.specs.Answers.{AnswersView}
 use Rattle.p2p_driver.specs.Drivers.{DriverView, DriverStandsAt, HasRoom, Does, seen, base_of}
 use Rattle.p2p_driver.specs.Happenings.{Happening, calls_of, shut_all}
 use Rattle.p2p_driver.specs.Links.{link_of, needs, closed}
+use Rattle.p2p_driver.specs.Meters.{MetersView}
 use Rattle.p2p_driver.specs.Steps.{Makes, TearsDown}
 use Rattle.p2p_driver.specs.declared.actions.Action.{Action}
 use Rattle.p2p_driver.specs.declared.arrivals.Arrival.{Arrival}
@@ -33,10 +34,10 @@ module _ {C : Type 0} where
   }
 
 module _ {C S : Type 0} (cmp : C → C → Ordering) (wire : Wire C S) (node : NodeView C S) (pace : Pace)
-    (greeting : List ℕ) (cooldown latest next : ℕ) (arrivals : List (Arrival C)) (answers : AnswersView)
+    (greeting : List ℕ) (cooldown latest next : ℕ) (arrivals : List (Arrival C)) (answers : AnswersView) (reads : List (ℕ × MetersView))
     (links : List (C × Held)) (actions : List (Action C)) where
   abbrev v : DriverView C S
-  v = seen node pace greeting cooldown latest next arrivals answers links actions
+  v = seen node pace greeting cooldown latest next arrivals answers reads links actions
 
   -- a set came that was accepted
   pub tears : (index : ℕ) (primary secondary torn : List C) (t : Duration) (node2 : NodeView C S)
@@ -46,12 +47,12 @@ module _ {C S : Type 0} (cmp : C → C → Ordering) (wire : Wire C S) (node : N
       ((q : C) → link_of cmp links2 q ≡ (if has_key cmp torn q then option_map closed (link_of cmp links q) else link_of cmp links q)) →
       length links2 ≡ length links → actions2 ≡ actions ++ shut_all cmp torn (link_of cmp links) →
       Does cmp wire (Happening.SetCame t index primary secondary torn) v
-      (seen node2 pace greeting cooldown (as_nanos t) next arrivals answers links2 actions2)
+      (seen node2 pace greeting cooldown (as_nanos t) next arrivals answers reads links2 actions2)
   tears index primary secondary torn t node2 links2 actions2 after few made torn_is tied same said = record {
     goes = λ given pace2 h at.
         let stood = slotted at.node in
         subst (λ acts. DriverStandsAt (base_of cmp wire given pace2) (Happening.SetCame t index primary secondary torn ∷ h)
-        (seen node2 pace greeting cooldown (as_nanos t) next arrivals answers links2 acts)) (sym said)
+        (seen node2 pace greeting cooldown (as_nanos t) next arrivals answers reads links2 acts)) (sym said)
         (Standing.tears (base_of cmp wire given pace2) h v at t index primary secondary torn
         (record node2 { slots = [] }) links2 (shut_all cmp torn (link_of cmp links))
         (subst (λ limits. length primary ≤ limits.max_bit_vec) at.node.limits few, torn_is given (calls_of h) stood)
@@ -64,7 +65,7 @@ module _ {C S : Type 0} (cmp : C → C → Ordering) (wire : Wire C S) (node : N
       length primary ≤ node.limits.max_bit_vec → Makes cmp (Track index primary secondary ∷ []) node node2 →
       TearsDown cmp index primary secondary None node →
       Does cmp wire (Happening.StaleSetCame index primary secondary) v
-      (seen node2 pace greeting cooldown latest next arrivals answers links actions)
+      (seen node2 pace greeting cooldown latest next arrivals answers reads links actions)
   stales index primary secondary node2 few made torn_is = record {
     goes = λ given pace2 h at.
         let stood = slotted at.node in

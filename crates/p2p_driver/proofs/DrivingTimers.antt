@@ -26,6 +26,7 @@ use Rattle.p2p_driver.specs.Arrivals.{has_number, is_unclaimed, deadline_of}
 use Rattle.p2p_driver.specs.Drivers.{DriverView, DriverStandsAt, IsRight, IsAsked, HasRoom, Does, Rise, seen, base_of}
 use Rattle.p2p_driver.specs.Happenings.{Happening, calls_of, answered_in, closing, closed_at, shut, asking_on, why_late}
 use Rattle.p2p_driver.specs.Links.{link_of, needs, need_of, need_at, is_late, is_timed, due, asking, is_to_ask, to_ask}
+use Rattle.p2p_driver.specs.Meters.{MetersView}
 use Rattle.p2p_driver.specs.Questions.{owed_with, asked_after, IsQuestion, IsNextQuestion}
 use Rattle.p2p_driver.specs.Steps.{Makes}
 use Rattle.p2p_driver.specs.Timers.{ClosesOne, ClosesLate, AsksOne, AsksAll, was_asked, TimesOut}
@@ -123,15 +124,15 @@ late_needs greeting silence t held late = go held.phase (nat_le (due greeting si
     go phase.Closing b late = absurd cc
 
 module _ {C S : Type 0} (cmp : C → C → Ordering) (wire : Wire C S) (node : NodeView C S) (pace : Pace)
-    (greeting : List ℕ) (cooldown latest next : ℕ) (arrivals : List (Arrival C)) (answers : AnswersView)
+    (greeting : List ℕ) (cooldown latest next : ℕ) (arrivals : List (Arrival C)) (answers : AnswersView) (reads : List (ℕ × MetersView))
     (links : List (C × Held)) (actions : List (Action C)) where
   abbrev v : DriverView C S
-  v = seen node pace greeting cooldown latest next arrivals answers links actions
+  v = seen node pace greeting cooldown latest next arrivals answers reads links actions
 
   -- time passed
   pub passes : (t : Duration) (node2 : NodeView C S) → latest ≤ as_nanos t →
       Makes cmp (UnblockExpired (as_nanos t) ∷ ForgetCooled (as_nanos t) ∷ []) node node2 →
-      Does cmp wire (Happening.Passed t) v (seen node2 pace greeting cooldown (as_nanos t) next arrivals answers links actions)
+      Does cmp wire (Happening.Passed t) v (seen node2 pace greeting cooldown (as_nanos t) next arrivals answers reads links actions)
   passes t node2 after made = record {
     goes = λ given pace2 h at.
         Standing.passed (base_of cmp wire given pace2) h v at t (record node2 { slots = [] }) after
@@ -144,7 +145,7 @@ module _ {C S : Type 0} (cmp : C → C → Ordering) (wire : Wire C S) (node : N
       IsSomeAnd (find (has_number n) arrivals) (λ a. nat_le (deadline_of (as_nanos pace.first) (as_nanos pace.handshake) a) (as_nanos t) ≡ true) →
       arrivals2 ≡ filter (λ a. not (has_number n a)) arrivals → roomless answers2 ≡ roomless answers →
       actions2 ≡ actions ++ closing n why.Slow →
-      Does cmp wire (Happening.StreamLate n t) v (seen node pace greeting cooldown latest next arrivals2 answers2 links actions2)
+      Does cmp wire (Happening.StreamLate n t) v (seen node pace greeting cooldown latest next arrivals2 answers2 reads links actions2)
   stream_closes n t arrivals2 answers2 actions2 now late gone same said = record {
     goes = λ given pace2 h at.
         let b = base_of cmp wire given pace2 in
@@ -155,9 +156,9 @@ module _ {C S : Type 0} (cmp : C → C → Ordering) (wire : Wire C S) (node : N
           arrivals = filter (λ a. not (has_number n a)) arrivals;
           answers = roomless answers;
           actions = actions ++ closing n why.Slow;
-        }) node pace greeting cooldown latest next arrivals2 answers2 links actions2 refl refl refl refl (sym now) refl (sym gone) (sym same) refl (sym said))
+        }) node pace greeting cooldown latest next arrivals2 answers2 reads links actions2 refl refl refl refl (sym now) refl (sym gone) (sym same) refl refl (sym said))
         (Standing.goes b h v at n t e (closing n why.Slow) (roomless answers) refl (λ j. refl) (λ j. refl) (λ j. refl) refl refl
-        (λ p. refl) (λ p. refl) (λ p. refl) refl refl refl refl refl
+        (λ p. refl) (λ p. refl) (λ p. refl) refl refl refl refl refl (λ j. refl) (λ j. refl) (λ j place. refl)
         (right b h at) (let is = now in grind (arith))
         (subst (λ k. AreKept b.pace k (answered_in h) (roomless answers)) (sym at.latest ∙ now) at.answers));
   }
@@ -179,7 +180,7 @@ module _ {C S : Type 0} (cmp : C → C → Ordering) (wire : Wire C S) (node : N
       IsSomeAnd (find (has_number n) arrivals) (λ a. nat_le (deadline_of (as_nanos pace.first) (as_nanos pace.handshake) a) (as_nanos t) ≡ true) →
       arrivals2 ≡ filter (λ a. not (has_number n a)) arrivals → roomless answers2 ≡ roomless answers →
       actions2 ≡ actions ++ closing n why.Slow →
-      ClosesOne cmp wire t v (seen node pace greeting cooldown latest next arrivals2 answers2 links actions2)
+      ClosesOne cmp wire t v (seen node pace greeting cooldown latest next arrivals2 answers2 reads links actions2)
   late_stream n t arrivals2 answers2 actions2 now late gone same said = record {
     happening = Happening.StreamLate n t;
     is_late = refl;
@@ -194,7 +195,7 @@ module _ {C S : Type 0} (cmp : C → C → Ordering) (wire : Wire C S) (node : N
       is_late (as_nanos pace.greeting) (as_nanos pace.silence) (as_nanos t) held ≡ true →
       ((q : C) → link_of cmp links2 q ≡ closed_at cmp p (link_of cmp links) q) → length links2 ≡ length links →
       actions2 ≡ actions ++ shut p (why_late (link_of cmp links p)) (link_of cmp links p) →
-      Does cmp wire (Happening.LinkLate n p t) v (seen node pace greeting cooldown latest next arrivals answers links2 actions2)
+      Does cmp wire (Happening.LinkLate n p t) v (seen node pace greeting cooldown latest next arrivals answers reads links2 actions2)
   link_closes n p held t links2 actions2 now linked is late tied same said = record {
     goes = λ given pace2 h at.
         let b = base_of cmp wire given pace2 in
@@ -203,7 +204,7 @@ module _ {C S : Type 0} (cmp : C → C → Ordering) (wire : Wire C S) (node : N
           latest = as_nanos t;
           links = links2;
           actions = actions ++ shut p (why_late (link_of cmp links p)) (link_of cmp links p);
-        }) node pace greeting cooldown latest next arrivals answers links2 actions2 refl refl refl refl (sym now) refl refl refl refl (sym said))
+        }) node pace greeting cooldown latest next arrivals answers reads links2 actions2 refl refl refl refl (sym now) refl refl refl refl refl (sym said))
         (Standing.lapses b h v at n p t links2
         (subst (λ o. IsSomeAnd o (λ held. (held.number ≡ n)
         × (is_late (as_nanos b.pace.greeting) (as_nanos b.pace.silence) (as_nanos t) held ≡ true))) (sym linked ∙ at.links p)
@@ -216,7 +217,7 @@ module _ {C S : Type 0} (cmp : C → C → Ordering) (wire : Wire C S) (node : N
       IsSomeAnd (link_of cmp links p) (λ held. is_late (as_nanos pace.greeting) (as_nanos pace.silence) (as_nanos t) held ≡ true) →
       ((q : C) → link_of cmp links2 q ≡ closed_at cmp p (link_of cmp links) q) → length links2 ≡ length links →
       actions2 ≡ actions ++ shut p (why_late (link_of cmp links p)) (link_of cmp links p) → needs links2 + need_at (link_of cmp links p) ≡ needs links →
-      ClosesOne cmp wire t v (seen node pace greeting cooldown latest next arrivals answers links2 actions2)
+      ClosesOne cmp wire t v (seen node pace greeting cooldown latest next arrivals answers reads links2 actions2)
   late_link p t links2 actions2 now late tied same said less = go (link_of cmp links p) refl late
     where
       needed : (held : Held) → link_of cmp links p ≡ Some held → needs links2 + need_of held.phase ≡ needs links
@@ -224,7 +225,7 @@ module _ {C S : Type 0} (cmp : C → C → Ordering) (wire : Wire C S) (node : N
 
       go : (o : Option Held) → link_of cmp links p ≡ o →
           IsSomeAnd o (λ held. is_late (as_nanos pace.greeting) (as_nanos pace.silence) (as_nanos t) held ≡ true) →
-          ClosesOne cmp wire t v (seen node pace greeting cooldown latest next arrivals answers links2 actions2)
+          ClosesOne cmp wire t v (seen node pace greeting cooldown latest next arrivals answers reads links2 actions2)
       go None linked late = absurd late
       go (Some held) linked late = record {
         happening = Happening.LinkLate held.number p t;
@@ -243,7 +244,7 @@ module _ {C S : Type 0} (cmp : C → C → Ordering) (wire : Wire C S) (node : N
       IfSome question (λ q. IsNextQuestion cmp wire pace.refresh held.asked q node) →
       ((q : C) → link_of cmp links2 q ≡ (if is_at (cmp p) q then option_map (asking owed (asked_after t question held.asked)) (link_of cmp links q) else link_of cmp links q)) →
       length links2 ≡ length links → actions2 ≡ actions ++ asking_on n question →
-      Does cmp wire (Happening.Asked n p t owed question) v (seen node pace greeting cooldown latest next arrivals answers links2 actions2)
+      Does cmp wire (Happening.Asked n p t owed question) v (seen node pace greeting cooldown latest next arrivals answers reads links2 actions2)
   asks exact n p held t owed question links2 actions2 now linked number due owes next_is tied same said = record {
     goes = λ given pace2 h at.
         let b = base_of cmp wire given pace2 in
@@ -252,7 +253,7 @@ module _ {C S : Type 0} (cmp : C → C → Ordering) (wire : Wire C S) (node : N
           latest = as_nanos t;
           links = links2;
           actions = actions ++ asking_on n question;
-        }) node pace greeting cooldown latest next arrivals answers links2 actions2 refl refl refl refl (sym now) refl refl refl refl (sym said))
+        }) node pace greeting cooldown latest next arrivals answers reads links2 actions2 refl refl refl refl (sym now) refl refl refl refl refl (sym said))
         (Standing.asks b h v at n p t owed question links2
         (subst (λ o. IsSomeAnd o (IsAsked b h n p t owed question)) (sym linked ∙ at.links p) (record {
           number = number;
@@ -309,7 +310,7 @@ module _ {C S : Type 0} (cmp : C → C → Ordering) (wire : Wire C S) (node : N
       ((q : C) → link_of cmp links2 q ≡ (if is_at (cmp p) q then option_map (asking owed (asked_after t question held.asked)) (link_of cmp links q) else link_of cmp links q)) →
       length links2 ≡ length links → actions2 ≡ actions ++ asking_on n question →
       to_ask (as_nanos pace.tick) (as_nanos t) links2 + 1 ≡ to_ask (as_nanos pace.tick) (as_nanos t) links →
-      AsksOne cmp wire t whether v (seen node pace greeting cooldown latest next arrivals answers links2 actions2)
+      AsksOne cmp wire t whether v (seen node pace greeting cooldown latest next arrivals answers reads links2 actions2)
   asks_one exact n p held t owed question whether links2 actions2 now linked number due owes next_is asked_is tied same said fewer = record {
     number = n;
     peer = p;

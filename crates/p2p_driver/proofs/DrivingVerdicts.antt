@@ -26,6 +26,8 @@ use Rattle.p2p_driver.specs.Frames.Cause.{OfVerdicts}
 use Rattle.p2p_driver.specs.Happenings.{Happening, calls_of}
 use Rattle.p2p_driver.specs.Hearing.{Follows, IsJudged}
 use Rattle.p2p_driver.specs.Links.{link_of, hearing}
+use Rattle.p2p_driver.specs.Meters.{MetersView}
+use Rattle.p2p_driver.specs.Reading.{read_by}
 use Rattle.p2p_driver.specs.Steps.{Makes, MakesFor, MayConnect, IsDone, IsBlocked}
 use Rattle.p2p_driver.specs.declared.actions.Action.{Action}
 use Rattle.p2p_driver.specs.declared.actions.Breach.TheVariants as breach
@@ -122,15 +124,15 @@ module _ {C S : Type 0} (cmp : C → C → Ordering) (wire : Wire C S) (exact : 
 
 -- WHAT A DRIVER DOES OF VERDICTS
 module _ {C S : Type 0} (cmp : C → C → Ordering) (wire : Wire C S) (node : NodeView C S) (pace : Pace)
-    (greeting : List ℕ) (cooldown latest next : ℕ) (arrivals : List (Arrival C)) (answers : AnswersView)
+    (greeting : List ℕ) (cooldown latest next : ℕ) (arrivals : List (Arrival C)) (answers : AnswersView) (reads : List (ℕ × MetersView))
     (links : List (C × Held)) (actions : List (Action C)) (n : ℕ) (p : C) (held : Held) (w : Waiting) (verdicts : List Bool) (t : Duration)
     (after : latest ≤ as_nanos t) (linked : link_of cmp links p ≡ Some held) (number : held.number ≡ n) (waits : held.waiting ≡ Some w)
     (may : IsWaiting cmp wire node.limits (judge_of cmp wire.verifies node.verifier) held.phase p w) (counted : length verdicts ≡ w.count) where
   abbrev stood : DriverView C S
-  stood = seen node pace greeting cooldown latest next arrivals answers links actions
+  stood = seen node pace greeting cooldown latest next arrivals answers reads links actions
 
   abbrev left : NodeView C S → List (C × Held) → List (Action C) → DriverView C S
-  left node2 links2 actions2 = seen node2 pace greeting cooldown (as_nanos t) next arrivals answers links2 actions2
+  left node2 links2 actions2 = seen node2 pace greeting cooldown (as_nanos t) next arrivals answers reads links2 actions2
 
   abbrev judge : Judge C S
   judge = judge_of cmp wire.verifies node.verifier
@@ -139,13 +141,14 @@ module _ {C S : Type 0} (cmp : C → C → Ordering) (wire : Wire C S) (node : N
   does : (owed : ℕ) (outcome : Outcome C S) (node2 : NodeView C S) (links2 : List (C × Held)) (actions2 : List (Action C)) →
       IsJudged cmp wire w verdicts outcome node → owed ≡ owed_after held.phase outcome pace.owed held.owed →
       AtEach cmp node (λ m calls. IsDone wire m pace.refresh held.asked calls p t outcome) → MakesFor cmp p t outcome node node2 →
+      ((j : ℕ) (place : Option ℕ) → read_by j place (Happening.Heard n p t owed (OfVerdicts verdicts) outcome) ≡ []) →
       Follows cmp n p t owed outcome links links2 actions actions2 →
       Does cmp wire (Happening.Heard n p t owed (OfVerdicts verdicts) outcome) stood (left node2 links2 actions2)
-  does owed outcome node2 links2 actions2 comes owes done made follows =
-      hears cmp wire node pace greeting cooldown latest next arrivals answers links actions n p held t owed
+  does owed outcome node2 links2 actions2 comes owes done made unread follows =
+      hears cmp wire node pace greeting cooldown latest next arrivals answers reads links actions n p held t owed
       (OfVerdicts verdicts) outcome node2 links2 actions2 linked number after
       (judged_outs cmp wire stood.node p held w verdicts outcome (not_closing cmp wire node.limits judge held.phase p w may) waits counted comes)
-      owes done made follows
+      (λ given pace2 h at. tt) owes done made unread follows
 
   -- the peer has greeted
   pub greets_by : (info : Info C S) (question : Option Question) (node1 node2 : NodeView C S) (links2 : List (C × Held)) (actions2 : List (Action C)) →
@@ -158,7 +161,7 @@ module _ {C S : Type 0} (cmp : C → C → Ordering) (wire : Wire C S) (node : N
       does (owed_after phase.Greeting (Outcome.Greets info question) pace.owed held.owed) (Outcome.Greets info question) node2 links2 actions2 comes
       (ap (λ ph. owed_after ph (Outcome.Greets info question) pace.owed held.owed)
       (sym (greeting_phase cmp wire node.limits judge held.phase p w info may comes.0)))
-      (asks question asked) made follows
+      (asks question asked) made (λ j place. refl) follows
     where
       made : MakesFor cmp p t (Outcome.Greets info question) node node2
       made given calls at = connected given (Update (info ∷ []) ∷ calls) (updated given calls at)
@@ -176,7 +179,7 @@ module _ {C S : Type 0} (cmp : C → C → Ordering) (wire : Wire C S) (node : N
       length links2 ≡ length links → actions2 ≡ actions →
       Does cmp wire (Happening.Heard n p t held.owed (OfVerdicts verdicts) (Outcome.Takes infos)) stood (left node2 links2 actions2)
   takes_by infos node2 links2 actions2 comes updated kept count same = does held.owed (Outcome.Takes infos) node2 links2 actions2 comes refl
-      (λ given calls at. tt) updated (record { links_are = kept; count = count; said = said_none actions actions2 same })
+      (λ given calls at. tt) updated (λ j place. refl) (record { links_are = kept; count = count; said = said_none actions actions2 same })
 
   -- what a refusal says of what waits
   abbrev pub IsRefusedFor : Error → Type 0
@@ -188,7 +191,7 @@ module _ {C S : Type 0} (cmp : C → C → Ordering) (wire : Wire C S) (node : N
       Follows {S = S} cmp n p t held.owed Outcome.IsEarly links links2 actions actions2 →
       Does cmp wire (Happening.Heard n p t held.owed (OfVerdicts verdicts) Outcome.IsEarly) stood (left node2 links2 actions2)
   early_by e node2 links2 actions2 refused early same follows = does held.owed Outcome.IsEarly node2 links2 actions2
-      (refused.0, refused.1, early_is e _ refused.2 early) refl (λ given calls at. tt) (unchanged cmp node node2 same) follows
+      (refused.0, refused.1, early_is e _ refused.2 early) refl (λ given calls at. tt) (unchanged cmp node node2 same) (λ j place. refl) follows
 
   -- another one is refused
   pub refuses_by : (e : Error) (blocked : Option Bool) (node1 node2 : NodeView C S) (links2 : List (C × Held)) (actions2 : List (Action C)) → IsRefusedFor e → is_early e ≡ false →
@@ -198,4 +201,4 @@ module _ {C S : Type 0} (cmp : C → C → Ordering) (wire : Wire C S) (node : N
   refuses_by e blocked node1 node2 links2 actions2 refused early same made blocks follows =
       does held.owed (Outcome.Breaks (breach.Invalid e) blocked) node2 links2 actions2 (refused.0, refused.1, (refused.2, early)) refl
       (blocked_done cmp wire node p t (breach.Invalid e) blocked (blocks_from cmp node1 node p (as_nanos t) blocked same blocks))
-      (makes_from cmp node1 node node2 p t (Outcome.Breaks (breach.Invalid e) blocked) same made) follows
+      (makes_from cmp node1 node node2 p t (Outcome.Breaks (breach.Invalid e) blocked) same made) (λ j place. refl) follows

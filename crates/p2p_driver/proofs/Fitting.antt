@@ -84,7 +84,7 @@ module _ {C S : Type 0} {key_size signature_size : ℕ} {spell_key : C → List 
   pub greeting_fits : (channels : List Channel) (limits : PayloadConfig) (i : Info C S) → IsInfo i →
       kind_of (261 + 10 + key_size + signature_size) channels limits false
       (payload_spelling spell_key spell_signature (said.Greeting i))
-      (length (payload_spelling spell_key spell_signature (said.Greeting i))) ≡ kind.Gossip
+      (length (payload_spelling spell_key spell_signature (said.Greeting i))) ≡ kind.Greeting
   greeting_fits channels limits i is =
       rw (le-ltb (1 + (261 + 10 + key_size + signature_size))
       (length (payload_spelling spell_key spell_signature (said.Greeting i)))

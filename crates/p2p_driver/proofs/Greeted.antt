@@ -70,12 +70,16 @@ module _ {C S : Type 0} (b : Base C S) where
       same d p info.public_key ≡ true
   own cs p phase.Greeting owed None (Cause.OfFrame frame wall) info question knows comes = absurd comes
   own cs p phase.Greeting owed None (Cause.OfVerdicts verdicts) info question knows comes = absurd comes
+  own cs p phase.Greeting owed None (Cause.OfHead longest head size) info question knows comes = absurd cc
+  own cs p phase.Greeting owed (Some w) (Cause.OfHead longest head size) info question knows comes = absurd comes
   own cs p phase.Greeting owed (Some w) (Cause.OfFrame frame wall) info question knows comes = absurd comes
   own cs p phase.Greeting owed (Some w) (Cause.OfVerdicts verdicts) info question knows comes =
       let known = knows w refl in
       subst (λ (i : Info C S). same d p i.public_key ≡ true) (ap (info_of info) (sym known.1 ∙ comes.1.0)) known.2
   own cs p phase.Open owed None (Cause.OfFrame frame wall) info question knows comes = absurd comes.2.3
   own cs p phase.Open owed None (Cause.OfVerdicts verdicts) info question knows comes = absurd comes
+  own cs p phase.Open owed None (Cause.OfHead longest head size) info question knows comes = absurd cc
+  own cs p phase.Open owed (Some w) (Cause.OfHead longest head size) info question knows comes = absurd comes
   own cs p phase.Open owed (Some w) (Cause.OfFrame frame wall) info question knows comes = absurd comes
   own cs p phase.Open owed (Some w) (Cause.OfVerdicts verdicts) info question knows comes =
       let known = knows w refl in absurd (differ (sym (ap reads_greeting (sym known.1 ∙ comes.1.0))))
@@ -90,6 +94,8 @@ module _ {C S : Type 0} (b : Base C S) where
       (infos : List (Info C S)) → served_in cs p ph owed waiting c (Outcome.Takes infos)
   taken_in cs p phase.Greeting owed None (Cause.OfFrame frame wall) infos = λ knows comes. absurd comes
   taken_in cs p phase.Greeting owed None (Cause.OfVerdicts verdicts) infos = λ knows comes. absurd comes
+  taken_in cs p phase.Greeting owed None (Cause.OfHead longest head size) infos = λ knows comes. absurd cc
+  taken_in cs p phase.Greeting owed (Some w) (Cause.OfHead longest head size) infos = λ knows comes. absurd comes
   taken_in cs p phase.Greeting owed (Some w) (Cause.OfFrame frame wall) infos = λ knows comes. absurd comes
   taken_in cs p phase.Greeting owed (Some w) (Cause.OfVerdicts verdicts) infos = λ knows comes.
       let known = knows w refl in absurd (differ (ap reads_greeting (sym known.1 ∙ comes.1.0)))
@@ -100,6 +106,8 @@ module _ {C S : Type 0} (b : Base C S) where
       (reply : List ℕ) → served_in cs p ph owed waiting c (Outcome.Answers reply)
   replied cs p phase.Greeting owed None (Cause.OfFrame frame wall) reply = λ knows comes. absurd comes
   replied cs p phase.Greeting owed None (Cause.OfVerdicts verdicts) reply = λ knows comes. absurd comes
+  replied cs p phase.Greeting owed None (Cause.OfHead longest head size) reply = λ knows comes. absurd cc
+  replied cs p phase.Greeting owed (Some w) (Cause.OfHead longest head size) reply = λ knows comes. absurd comes
   replied cs p phase.Greeting owed (Some w) (Cause.OfFrame frame wall) reply = λ knows comes. absurd comes
   replied cs p phase.Greeting owed (Some w) (Cause.OfVerdicts verdicts) reply = λ knows comes. absurd comes.1.2
   replied cs p phase.Open owed waiting c reply = λ knows comes. refl
@@ -109,6 +117,8 @@ module _ {C S : Type 0} (b : Base C S) where
       (message : Data) → served_in cs p ph owed waiting c (Outcome.Delivers message)
   delivered cs p phase.Greeting owed None (Cause.OfFrame frame wall) message = λ knows comes. absurd comes
   delivered cs p phase.Greeting owed None (Cause.OfVerdicts verdicts) message = λ knows comes. absurd comes
+  delivered cs p phase.Greeting owed None (Cause.OfHead longest head size) message = λ knows comes. absurd cc
+  delivered cs p phase.Greeting owed (Some w) (Cause.OfHead longest head size) message = λ knows comes. absurd comes
   delivered cs p phase.Greeting owed (Some w) (Cause.OfFrame frame wall) message = λ knows comes. absurd comes
   delivered cs p phase.Greeting owed (Some w) (Cause.OfVerdicts verdicts) message = λ knows comes. absurd comes.1.2
   delivered cs p phase.Open owed waiting c message = λ knows comes. refl
@@ -124,6 +134,9 @@ module _ {C S : Type 0} (b : Base C S) where
   served cs p ph owed waiting c Outcome.Ignores is = absurd cc
   served cs p ph owed waiting c (Outcome.Breaks breach blocked) is = absurd cc
   served cs p ph owed waiting c Outcome.IsEarly is = absurd cc
+  served cs p ph owed waiting c Outcome.LacksChannel is = absurd cc
+  served cs p ph owed waiting c (Outcome.Delays next) is = absurd cc
+  served cs p ph owed waiting c (Outcome.Reads kind looked) is = absurd cc
 
   module _ (exact : CmpEqualImpliesEq b.made.directory.cmp) where
     -- what a peer was heard to say came of what may wait on its link
@@ -163,6 +176,9 @@ module _ {C S : Type 0} (b : Base C S) where
     heard_greets h right n q t owed c Outcome.Ignores is p greets = absurd cc
     heard_greets h right n q t owed c (Outcome.Breaks breach blocked) is p greets = absurd cc
     heard_greets h right n q t owed c Outcome.IsEarly is p greets = absurd cc
+    heard_greets h right n q t owed c Outcome.LacksChannel is p greets = absurd cc
+    heard_greets h right n q t owed c (Outcome.Delays next) is p greets = absurd cc
+    heard_greets h right n q t owed c (Outcome.Reads kind looked) is p greets = absurd cc
 
     greets_own : (e : Happening C S) (h : List (Happening C S)) → IsRight b h e → AreRight b h → (p : C) →
         greets_by d p e ≡ true → IsGreetingOf d p e

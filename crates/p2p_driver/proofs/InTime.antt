@@ -54,6 +54,9 @@ module _ {C S : Type 0} (b : Base C S) where
   heard q t (Outcome.Breaks breach (Some taken)) cs before = (at_most (as_nanos t), before)
   heard q t (Outcome.Breaks breach None) cs before = before
   heard q t Outcome.IsEarly cs before = before
+  heard q t Outcome.LacksChannel cs before = before
+  heard q t (Outcome.Delays next) cs before = before
+  heard q t (Outcome.Reads kind looked) cs before = before
 
   pub in_time : (h : List (Happening C S)) → AreRight b h → NeverGoBack d (latest_at h) (calls_of h)
   in_time [] right = tt

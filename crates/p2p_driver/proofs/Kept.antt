@@ -80,6 +80,14 @@ forgotten burst A h full now kept over = record {
   reached = inl (omega arith);
 }
 
+-- nothing happened
+pub kept_empty : (burst A now : ℕ) → IsKept burst A now [] 0
+kept_empty burst A now = record {
+  before = λ k a at. absurd cc;
+  least = λ k a at. absurd cc;
+  reached = inl (omega arith);
+}
+
 -- what is kept at a moment is kept later
 pub kept_later : (burst A : ℕ) (h : List ℕ) (full now later : ℕ) → IsKept burst A now h full →
     now ≤ later → IsKept burst A later h full

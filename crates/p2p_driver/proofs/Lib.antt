@@ -13,6 +13,8 @@ mod Called
 mod StreamHistory
 mod LinkHistory
 mod Unused
+mod Metered
+mod Paced
 mod Standing
 mod Status
 mod Driving
@@ -24,9 +26,11 @@ mod Taken
 mod Closed
 mod Budget
 mod Numbers
+mod Lasting
 mod DrivingLinks
 mod DrivingApplication
 mod DrivingFrames
+mod DrivingReads
 mod DrivingVerdicts
 mod Payloads
 mod Reserved
@@ -46,3 +50,4 @@ mod Early
 mod Shown
 mod Spelled
 mod Fitting
+mod Reading

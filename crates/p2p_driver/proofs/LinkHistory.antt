@@ -1,5 +1,5 @@
 -- The links of peers after one more happening, and what was said.
-use Rattle.std.proofs.Common.{◌≡◌, ℕ, ◌+◌, Bool, true, false, not, ◌||◌, ◌&&◌, cond, List, [], ◌∷◌, ◌++◌, Option, Some, None, refl, sym, ◌∙◌, ap, arith}
+use Rattle.std.proofs.Common.{◌≡◌, ℕ, ◌+◌, Bool, true, false, ◌||◌, ◌&&◌, cond, List, [], ◌∷◌, ◌++◌, Option, Some, None, refl, sym, ◌∙◌, ap, arith}
 use Rattle.std.specs.Prelude.{if◌then◌else◌, option_map, unwrap_or}
 use Rattle.std.specs.List.{list_any, count_by}
 use Rattle.std.proofs.lemmas.List.Sums.{sum_by-cons}
@@ -16,8 +16,9 @@ use Rattle.p2p_driver.specs.declared.questions.Question.{Question}
 use Rattle.p2p_discovery.specs.Judgement.{first_of}
 use Rattle.p2p_driver.specs.Questions.{asked_after, counted}
 use Rattle.p2p_driver.specs.Frames.{Cause, Outcome, waiting_by}
-use Rattle.p2p_driver.specs.Happenings.{Happening, link_at, link_since, opened_by, ends_by, closes_by, greets_by, heard_by, phase_of, owed_by, tried_by, index_by, newest_by, index_tried, newest_tried, tried_with, kept_of, last_heard, last_tried, asked_in, is_closing, is_greeted, heard_as}
-use Rattle.p2p_driver.specs.Links.{link_with, greeted, waiting_in, hearing, opened, asking, closed}
+use Rattle.p2p_driver.specs.Looked.{LookedView}
+use Rattle.p2p_driver.specs.Happenings.{Happening, link_at, link_since, opened_by, ends_by, closes_by, greets_by, heard_by, phase_of, owed_by, tried_by, index_by, newest_by, index_tried, newest_tried, tried_with, kept_of, last_heard, last_tried, last_looked, asked_in, is_closing, is_greeted, is_heard, looked_by, looks_by, heard_as}
+use Rattle.p2p_driver.specs.Links.{link_with, greeted, unless_closing, hearing, opened, asking, allowing, closed}
 
 -- a phase once the link was closed, or greeted on
 abbrev pub phase_after : Bool → Bool → Phase → Phase
@@ -44,21 +45,23 @@ of_open true g is = absurd cc
 of_open false true is = refl
 of_open false false is = absurd cc
 
--- what one happening does to a link: it is closed, its peer greets, or is heard, questions are owed, one is due
+-- what one happening does to a link: it is closed, its peer greets, or is heard, questions are owed, one is due, a frame
+-- may be handed in, or none
 pub record Touch : Type 0 where
   pub closes : Bool
   pub greets : Bool
   pub heard : Option (Duration × Option Waiting)
   pub owed : Option ℕ
   pub tried : Option (Duration × Option Question)
+  pub looked : Option (Option LookedView)
 
 -- nothing
 abbrev pub untouched : Touch
-untouched = record { closes = false; greets = false; heard = None; owed = None; tried = None }
+untouched = record { closes = false; greets = false; heard = None; owed = None; tried = None; looked = None }
 
 -- it is closed, or not
 abbrev pub closing_if : Bool → Touch
-closing_if b = record { closes = b; greets = false; heard = None; owed = None; tried = None }
+closing_if b = record { closes = b; greets = false; heard = None; owed = None; tried = None; looked = None }
 
 -- when its peer was heard last, how much is owed, what waits, and what is kept of its questions
 abbrev pub heard_after : Option (Duration × Option Waiting) → Duration → Duration
@@ -71,7 +74,11 @@ owed_now (Some now) owed = now
 
 abbrev pub waiting_after : Option (Duration × Option Waiting) → Bool → Phase → Option Waiting → Option Waiting
 waiting_after None closes ph waiting = if closes then None else waiting
-waiting_after (Some heard) closes ph waiting = waiting_in ph heard.1
+waiting_after (Some heard) closes ph waiting = unless_closing ph heard.1
+
+abbrev pub looked_after : Option (Option LookedView) → Bool → Phase → Option LookedView → Option LookedView
+looked_after None closes ph looked = if closes then None else looked
+looked_after (Some now) closes ph looked = unless_closing ph now
 
 abbrev pub tried_after : Option (Duration × Option Question) → Asked → Asked
 tried_after None asked = asked
@@ -86,6 +93,7 @@ touched touch held = record {
   owed = owed_now touch.owed held.owed;
   waiting = waiting_after touch.heard touch.closes (phase_after touch.closes touch.greets held.phase) held.waiting;
   asked = tried_after touch.tried held.asked;
+  looked = looked_after touch.looked touch.closes (phase_after touch.closes touch.greets held.phase) held.looked;
 }
 
 -- a link once it ended, was closed, greeted on, or heard
@@ -109,6 +117,12 @@ closed_link true None = refl
 closed_link true (Some held) = refl
 closed_link false o = unchanged_link o
 
+-- nothing is kept of nothing
+pub nothing_kept : {A : Type 0} (ph : Phase) → unless_closing {A = A} ph None ≡ None
+nothing_kept phase.Greeting = refl
+nothing_kept phase.Open = refl
+nothing_kept phase.Closing = refl
+
 -- .. or greeted on
 pub opened_link : (b : Bool) (t : Duration) (owed : ℕ) (question : Option Question) (o : Option Held) →
     link_after false (record {
@@ -117,20 +131,17 @@ pub opened_link : (b : Bool) (t : Duration) (owed : ℕ) (question : Option Ques
       heard = if b then Some (t, None) else None;
       owed = if b then Some owed else None;
       tried = if b then Some (t, question) else None;
+      looked = if b then Some None else None;
     }) o ≡ (if b then option_map (λ h. opened t owed (asked_after t question h.asked) h) o else o)
 opened_link true t owed question None = refl
-opened_link true t owed question (Some held) = ap (λ w. Some (record held {
+opened_link true t owed question (Some held) = λ i. Some (record held {
   phase = greeted held.phase;
   heard = t;
   owed = owed;
-  waiting = w;
+  waiting = nothing_kept {A = Waiting} (greeted held.phase) i;
   asked = asked_after t question held.asked;
-})) (none (greeted held.phase))
-  where
-    none : (ph : Phase) → waiting_in ph None ≡ None
-    none phase.Greeting = refl
-    none phase.Open = refl
-    none phase.Closing = refl
+  looked = nothing_kept {A = LookedView} (greeted held.phase) i;
+})
 opened_link false t owed question o = unchanged_link o
 
 -- .. or heard
@@ -141,9 +152,15 @@ pub heard_link : (b : Bool) (t : Duration) (owed : ℕ) (w : Option Waiting) (o 
       heard = if b then Some (t, w) else None;
       owed = if b then Some owed else None;
       tried = if b then None else None;
+      looked = if b then Some None else None;
     }) o ≡ (if b then option_map (hearing t owed w) o else o)
 heard_link true t owed w None = refl
-heard_link true t owed w (Some held) = refl
+heard_link true t owed w (Some held) = ap (λ l. Some (record held {
+  heard = t;
+  owed = owed;
+  waiting = unless_closing held.phase w;
+  looked = l;
+})) (nothing_kept {A = LookedView} held.phase)
 heard_link false t owed w o = unchanged_link o
 
 -- .. or asked
@@ -154,6 +171,7 @@ pub asked_link : (b : Bool) (t : Duration) (owed : ℕ) (question : Option Quest
       heard = None;
       owed = if b then Some owed else None;
       tried = if b then Some (t, question) else None;
+      looked = None;
     }) o ≡ (if b then option_map (λ h. asking owed (asked_after t question h.asked) h) o else o)
 asked_link true t owed question None = refl
 asked_link true t owed question (Some held) = refl
@@ -161,20 +179,42 @@ asked_link false t owed question o = unchanged_link o
 
 -- .. or closed by what came
 cut_link : (b : Bool) (o : Option Held) →
-    link_after false (record { closes = b; greets = false; heard = None; owed = None; tried = if b then None else None }) o
+    link_after false (record {
+      closes = b;
+      greets = false;
+      heard = None;
+      owed = None;
+      tried = if b then None else None;
+      looked = if b then Some None else None;
+    }) o
     ≡ (if b then option_map closed o else o)
 cut_link true None = refl
 cut_link true (Some held) = refl
 cut_link false o = unchanged_link o
+
+-- .. or may be handed a frame in on
+allowed_link : (b : Bool) (l : LookedView) (o : Option Held) →
+    link_after false (record {
+      closes = false;
+      greets = false;
+      heard = None;
+      owed = None;
+      tried = if b then None else None;
+      looked = if b then Some (Some l) else None;
+    }) o ≡ (if b then option_map (allowing l) o else o)
+allowed_link true l None = refl
+allowed_link true l (Some held) = refl
+allowed_link false l o = unchanged_link o
 
 -- by what came of it
 pub outcome_link : {C S : Type 0} (b : Bool) (t : Duration) (owed : ℕ) (outcome : Outcome C S) (o : Option Held) →
     link_after false (record {
       closes = is_closing outcome && b;
       greets = is_greeted outcome && b;
-      heard = if not (is_closing outcome) && b then Some (t, waiting_by outcome) else None;
-      owed = if not (is_closing outcome) && b then Some owed else None;
+      heard = if is_heard outcome && b then Some (t, waiting_by outcome) else None;
+      owed = if is_heard outcome && b then Some owed else None;
       tried = if b then tried_with t outcome else None;
+      looked = if b then Some (looked_by outcome) else None;
     }) o ≡ (if b then option_map (heard_as t owed outcome) o else o)
 outcome_link b t owed (Outcome.Waits waiting) o = heard_link b t owed (Some waiting) o
 outcome_link b t owed (Outcome.Greets info question) o = opened_link b t owed question o
@@ -184,33 +224,72 @@ outcome_link b t owed (Outcome.Delivers message) o = heard_link b t owed None o
 outcome_link b t owed Outcome.Ignores o = heard_link b t owed None o
 outcome_link b t owed (Outcome.Breaks breach blocked) o = cut_link b o
 outcome_link b t owed Outcome.IsEarly o = cut_link b o
+outcome_link b t owed Outcome.LacksChannel o = cut_link b o
+outcome_link b t owed (Outcome.Delays next) o = heard_link b t owed None o
+outcome_link b t owed (Outcome.Reads kind looked) o = allowed_link b looked o
 
--- what is kept of a link, by how far it is, when its peer was heard last, how much is owed, what waits, and its questions
-abbrev kept_with : ℕ → Duration → Phase → Duration × Option Waiting → ℕ → Asked → Held
-kept_with n t ph last owed asked = record {
+-- what is kept of a link, by how far it is, when its peer was heard last, how much is owed, what waits, its questions, and
+-- the frame that may be handed in
+abbrev kept_with : ℕ → Duration → Phase → Duration × Option Waiting → ℕ → Asked → Option LookedView → Held
+kept_with n t ph last owed asked looked = record {
   number = n;
   phase = ph;
   since = t;
   heard = last.0;
   owed = owed;
-  waiting = waiting_in ph last.1;
+  waiting = unless_closing ph last.1;
   asked = asked;
+  looked = unless_closing ph looked;
 }
+
+abbrev last_looked_after : Option (Option LookedView) → Option LookedView → Option LookedView
+last_looked_after None last = last
+last_looked_after (Some now) last = now
 
 abbrev last_after : Option (Duration × Option Waiting) → Duration × Option Waiting → Duration × Option Waiting
 last_after None last = last
 last_after (Some heard) last = heard
 
+-- .. after one more happening
+kept_same : {A : Type 0} (c g : Bool) (ph : Phase) (last : Option A) →
+    unless_closing (phase_after c g ph) last ≡ (if c then None else unless_closing ph last)
+kept_same true g ph last = refl
+kept_same false true phase.Greeting last = refl
+kept_same false true phase.Open last = refl
+kept_same false true phase.Closing last = refl
+kept_same false false ph last = refl
+
+looked_step : (c g : Bool) (looked : Option (Option LookedView)) (ph : Phase) (last : Option LookedView) →
+    unless_closing (phase_after c g ph) (last_looked_after looked last)
+    ≡ looked_after looked c (phase_after c g ph) (unless_closing ph last)
+looked_step c g (Some now) ph last = refl
+looked_step c g None ph last = kept_same c g ph last
+
+waiting_step : (c g : Bool) (heard : Option (Duration × Option Waiting)) (ph : Phase) (last : Duration × Option Waiting) →
+    unless_closing (phase_after c g ph) (last_after heard last).1
+    ≡ waiting_after heard c (phase_after c g ph) (unless_closing ph last.1)
+waiting_step c g (Some heard) ph last = refl
+waiting_step c g None ph last = kept_same c g ph last.1
+
+heard_step : (heard : Option (Duration × Option Waiting)) (last : Duration × Option Waiting) → (last_after heard last).0 ≡ heard_after heard last.0
+heard_step (Some heard) last = refl
+heard_step None last = refl
+
 kept_step : (n : ℕ) (t : Duration) (c g : Bool) (heard : Option (Duration × Option Waiting)) (o : Option ℕ)
-    (tried : Option (Duration × Option Question)) (ph : Phase) (last : Duration × Option Waiting) (owed : ℕ) (asked : Asked) →
-    kept_with n t (phase_after c g ph) (last_after heard last) (owed_now o owed) (tried_after tried asked)
-    ≡ touched (record { closes = c; greets = g; heard = heard; owed = o; tried = tried }) (kept_with n t ph last owed asked)
-kept_step n t c g (Some heard) o tried ph last owed asked = refl
-kept_step n t true g None o tried ph last owed asked = refl
-kept_step n t false true None o tried phase.Greeting last owed asked = refl
-kept_step n t false true None o tried phase.Open last owed asked = refl
-kept_step n t false true None o tried phase.Closing last owed asked = refl
-kept_step n t false false None o tried ph last owed asked = refl
+    (tried : Option (Duration × Option Question)) (looked : Option (Option LookedView)) (ph : Phase) (last : Duration × Option Waiting) (owed : ℕ)
+    (asked : Asked) (last_seen : Option LookedView) →
+    kept_with n t (phase_after c g ph) (last_after heard last) (owed_now o owed) (tried_after tried asked) (last_looked_after looked last_seen)
+    ≡ touched (record { closes = c; greets = g; heard = heard; owed = o; tried = tried; looked = looked }) (kept_with n t ph last owed asked last_seen)
+kept_step n t c g heard o tried looked ph last owed asked last_seen = λ i. record {
+  number = n;
+  phase = phase_after c g ph;
+  since = t;
+  heard = heard_step heard last i;
+  owed = owed_now o owed;
+  waiting = waiting_step c g heard ph last i;
+  asked = tried_after tried asked;
+  looked = looked_step c g looked ph last_seen i;
+}
 
 -- what is kept of questions, by its parts
 abbrev asked_at : Duration → Option ℕ → ℕ → Asked
@@ -230,7 +309,14 @@ module _ {C S : Type 0} (s : Settings C S) where
     heard = heard_by s p e;
     owed = owed_by s p e;
     tried = tried_by s p e;
+    looked = looks_by s p e;
   }
+
+  looks_step : (e : Happening C S) (looked : Option (Option LookedView)) (found : Option (Option LookedView × List (Happening C S))) →
+      last_looked s (found_with looked e found) ≡ last_looked_after looked (last_looked s found)
+  looks_step e (Some looked) found = refl
+  looks_step e None None = refl
+  looks_step e None (Some found) = refl
 
   last_step : (t : Duration) (e : Happening C S) (heard : Option (Duration × Option Waiting))
       (found : Option ((Duration × Option Waiting) × List (Happening C S))) →
@@ -286,17 +372,15 @@ module _ {C S : Type 0} (s : Settings C S) where
       let ph : Phase = phase_of (list_any (closes_by s p) since) (list_any (greets_by s p) since) in
       let last : Duration × Option Waiting = last_heard s t (last_with (heard_by s p) since) in
       let owed : ℕ = unwrap_or (option_map (λ x. x.0) (last_with (owed_by s p) since)) 0 in
-      ap (λ x. kept_with n t x (last_heard s t (last_with (heard_by s p) (e ∷ since)))
-      (unwrap_or (option_map (λ x. x.0) (last_with (owed_by s p) (e ∷ since))) 0) (asked_in s p t (e ∷ since)))
-      (phase_step (closes_by s p e) (list_any (closes_by s p) since) (greets_by s p e) (list_any (greets_by s p) since))
-      ∙ ap (λ x. kept_with n t (phase_after (closes_by s p e) (greets_by s p e) ph) x
-      (unwrap_or (option_map (λ x. x.0) (last_with (owed_by s p) (e ∷ since))) 0) (asked_in s p t (e ∷ since)))
-      (last_step t e (heard_by s p e) (last_with (heard_by s p) since))
-      ∙ ap (λ x. kept_with n t (phase_after (closes_by s p e) (greets_by s p e) ph) (last_after (heard_by s p e) last) x (asked_in s p t (e ∷ since)))
-      (owed_step e (owed_by s p e) (last_with (owed_by s p) since))
-      ∙ ap (kept_with n t (phase_after (closes_by s p e) (greets_by s p e) ph) (last_after (heard_by s p e) last) (owed_now (owed_by s p e) owed))
-      (asked_step p t e since)
-      ∙ kept_step n t (closes_by s p e) (greets_by s p e) (heard_by s p e) (owed_by s p e) (tried_by s p e) ph last owed (asked_in s p t since)
+      let seen : Option LookedView = last_looked s (last_with (looks_by s p) since) in
+      (λ i. kept_with n t
+      (phase_step (closes_by s p e) (list_any (closes_by s p) since) (greets_by s p e) (list_any (greets_by s p) since) i)
+      (last_step t e (heard_by s p e) (last_with (heard_by s p) since) i)
+      (owed_step e (owed_by s p e) (last_with (owed_by s p) since) i)
+      (asked_step p t e since i)
+      (looks_step e (looks_by s p e) (last_with (looks_by s p) since) i))
+      ∙ kept_step n t (closes_by s p e) (greets_by s p e) (heard_by s p e) (owed_by s p e) (tried_by s p e) (looks_by s p e) ph last owed
+      (asked_in s p t since) seen
 
   later : (p : C) (e : Happening C S) (found : Option ((ℕ × Duration) × List (Happening C S))) →
       link_since s p (found_with None e found) ≡ link_after (ends_by s p e) (touch_by p e) (link_since s p found)

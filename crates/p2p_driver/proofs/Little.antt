@@ -86,6 +86,9 @@ module _ {C : Type 0} where
   answered_few n p (Outcome.Breaks b blocked) o = let long = length-append (shut p (why.Breach b) o) (barred p b blocked) in
       let one = shut_few p (why.Breach b) o in let two = barred_few p b blocked in omega (arith, long, one, two)
   answered_few n p Outcome.IsEarly o = let few = shut_few p why.Future o in omega (arith, few)
+  answered_few n p Outcome.LacksChannel o = let few = shut_few p why.NoChannel o in omega (arith, few)
+  answered_few n p (Outcome.Delays next) o = omega arith
+  answered_few n p (Outcome.Reads kind looked) o = omega arith
 
 -- links that are closed one after the other
 module _ {C : Type 0} {cmp : C → C → Ordering} (total : IsTotalOrder cmp) where

@@ -26,7 +26,7 @@ no_link : (g : Held) → ¬ (None ≡ Some g)
 no_link g is = cc
 
 -- a link that is there was there before, of the same number
-before : (ends : Bool) (touch : Touch) (o : Option Held) (g : Held) → link_after ends touch o ≡ Some g →
+pub before : (ends : Bool) (touch : Touch) (o : Option Held) (g : Held) → link_after ends touch o ≡ Some g →
     (g0 : Held) × (o ≡ Some g0) × (g0.number ≡ g.number)
 before ends touch None g is = absurd cc
 before true touch (Some held) g is = absurd cc
@@ -59,7 +59,7 @@ module _ {C S : Type 0} where
       go true is = omega (arith, next_rises e h is)
       go false is = omega (arith, next_stays e h is)
 
-  still_over : (e : Happening C S) (h : List (Happening C S)) (n : ℕ) → came_by n e ≡ None → IsOver h n → IsOver (e ∷ h) n
+  pub still_over : (e : Happening C S) (h : List (Happening C S)) (n : ℕ) → came_by n e ≡ None → IsOver h n → IsOver (e ∷ h) n
   still_over e h n none over = (
     stream_later n e h none ∙ ap (stream_after (leaves_by n e) (claim_by n e)) over.0,
     omega (arith, no_fewer e h, over.1),
@@ -69,19 +69,19 @@ module _ {C S : Type 0} (b : Base C S) where
   abbrev pub d : Settings C S
   d = b.made.directory
 
-  claimed_is_there : (h : List (Happening C S)) (n : ℕ) (p : C) → is_claimed b h n p ≡ true → is_some (stream_at n h) ≡ true
+  pub claimed_is_there : (h : List (Happening C S)) (n : ℕ) (p : C) → is_claimed b h n p ≡ true → is_some (stream_at n h) ≡ true
   claimed_is_there h n p is = go (stream_at n h) is
     where
       go : (o : Option (Arrival C)) → is_claim_by b.made.directory.cmp p o ≡ true → is_some o ≡ true
       go None is = absurd cc
       go (Some a) is = refl
 
-  number_below : (h : List (Happening C S)) → AreRight b h → (n : ℕ) → is_some (stream_at n h) ≡ true → n < next_at h
+  pub number_below : (h : List (Happening C S)) → AreRight b h → (n : ℕ) → is_some (stream_at n h) ≡ true → n < next_at h
   number_below h right n is = let few = streams_of b h right in
       found_below 0 (next_at h) few.streams few.are.rise n (ap is_some (few.are.each n) ∙ is)
 
   -- a stream that is there isn't over
-  not_over : (h : List (Happening C S)) (n m : ℕ) → n ≡ m → is_some (stream_at n h) ≡ true → ¬ (IsOver h m)
+  pub not_over : (h : List (Happening C S)) (n m : ℕ) → n ≡ m → is_some (stream_at n h) ≡ true → ¬ (IsOver h m)
   not_over h n m is there over = let none = sym (ap (λ k. is_some (stream_at k h)) is) ∙ there in
       let nothing = ap is_some over.0 in absurd cc
 

@@ -107,6 +107,7 @@ tells_next cmp wire l j owed frame wall (came.Breach breach.OtherGreeting) g u t
 tells_next cmp wire l j owed frame wall (came.Breach breach.SecondGreeting) g u tells = absurd (tells None (λ index bits now. None)).3
 tells_next cmp wire l j owed frame wall (came.Breach (breach.Codec fault)) g u tells = (g, u, tells)
 tells_next cmp wire l j owed frame wall (came.Breach breach.Malformed) g u tells = (g, u, tells)
+tells_next cmp wire l j owed frame wall (came.Breach breach.FrameLength) g u tells = (g, u, tells)
 tells_next cmp wire l j owed frame wall (came.Breach (breach.Invalid e)) g u tells = (g, u, tells)
 tells_next cmp wire l j owed frame wall came.Early g u tells = (g, u, tells)
 tells_next cmp wire l j owed frame wall (came.Waits w) g u tells = (g, u, tells)

@@ -1,9 +1,13 @@
 -- A history that is right: a set and a stream come, the stream claims and is proved, the peer greets
--- and is asked, its message is delivered, its list is admitted and taken, its question is answered,
+-- and is asked, each of its frames is read, its message is delivered, its list is admitted and taken, its question is answered,
 -- a tick later it is asked for all infos, and it is blocked for a second greeting. So the premises
 -- of the laws are met. Keys and signatures are of one byte.
-use Rattle.std.proofs.Common.{◌≡◌, ℕ, Bool, true, false, List, [], ◌∷◌, Some, refl}
+use Rattle.std.proofs.Common.{◌≡◌, ℕ, zero, suc, ◌+◌, ◌-◌, ◌*◌, ◌≤◌, Bool, true, false, List, [], ◌∷◌, Some, refl}
 use Rattle.std.proofs.Common.{arith}
+use Rattle.std.specs.Prelude.{length}
+use Rattle.std.specs.Duration.{as_nanos}
+use Rattle.std.specs.Int.NonZero.{non_zero_u32_get}
+use Rattle.std.specs.List.{slice_get}
 use Rattle.std.specs.List.Sorted.{IsStrictlySortedBy}
 use Rattle.std.specs.declared.time.Duration.{Duration}
 use Rattle.p2p_discovery.specs.declared.data.Data.{Data}
@@ -24,6 +28,10 @@ use Rattle.p2p_directory.proofs.Definitions.GossipExamples.{one, wire, signed, o
 use Rattle.p2p_driver.specs.Drivers.{Base, AreRight}
 use Rattle.p2p_driver.proofs.Beginnings.{Begins, begins}
 use Rattle.p2p_driver.specs.Frames.{Cause, Outcome}
+use Rattle.p2p_driver.specs.Looked.{looked_of}
+use Rattle.p2p_driver.specs.declared.heads.Kind.{Kind}
+use Rattle.p2p_driver.specs.declared.heads.Kind.TheVariants as kind
+use Rattle.p2p_driver.specs.declared.pace.Channel.{Channel}
 use Rattle.p2p_driver.specs.Happenings.{Happening}
 use Rattle.p2p_driver.specs.Laws.{asked_on, lists_on, has_greeted}
 use Rattle.p2p_driver.specs.declared.actions.Breach.TheVariants as breach
@@ -69,7 +77,17 @@ asking frame = record { index = Some 0; newest = true; frame = frame }
 abbrev frame : List ℕ → Cause
 frame bytes = Cause.OfFrame bytes (seconds 100)
 
+-- a frame may be read
+abbrev reads : ℕ → ℕ → List ℕ → Kind → Happening ℕ ℕ
+reads t owed bytes k = heard t owed (Cause.OfHead 300 bytes (length bytes)) (Outcome.Reads k (looked_of bytes (length bytes)))
+
+abbrev wordy : List ℕ
+wordy = 0 ∷ 7 ∷ 1 ∷ 65 ∷ []
+
 module _ (given : Pace) where
+  abbrev channel : Channel
+  channel = record { number = 7; longest = 10; burst = given.burst; refill = seconds 1 }
+
   abbrev b : Base ℕ ℕ
   b = record {
     made = asker;
@@ -81,6 +99,8 @@ module _ (given : Pace) where
       owed = 4;
       tick = seconds 30;
       refresh = 2;
+      refill = seconds 1;
+      channels = record given.channels { items = channel ∷ []; len = 1; cap = 1; ok = (refl, omega arith); small = omega arith };
     };
     greeting = wire.spelling (payload.Greeting own_of_9);
     wire = wire;
@@ -98,29 +118,44 @@ module _ (given : Pace) where
   abbrev proved : List (Happening ℕ ℕ)
   proved = Happening.Proved 1 1 (seconds 2) (seconds 0) ∷ claimed
 
+  abbrev greeting_read : List (Happening ℕ ℕ)
+  greeting_read = reads 2 0 hello kind.Greeting ∷ proved
+
   abbrev greeting_waits : List (Happening ℕ ℕ)
-  greeting_waits = heard 2 0 (frame hello) (Outcome.Waits (waits hello)) ∷ proved
+  greeting_waits = heard 2 0 (frame hello) (Outcome.Waits (waits hello)) ∷ greeting_read
 
   abbrev greeted : List (Happening ℕ ℕ)
   greeted = heard 3 1 (Cause.OfVerdicts (true ∷ [])) (Outcome.Greets greeter (Some (asking (having true false)))) ∷ greeting_waits
 
+  abbrev message_read : List (Happening ℕ ℕ)
+  message_read = reads 4 1 wordy (kind.Message 0) ∷ greeted
+
   abbrev delivered : List (Happening ℕ ℕ)
-  delivered = heard 4 1 (frame (0 ∷ 7 ∷ 1 ∷ 65 ∷ [])) (Outcome.Delivers message) ∷ greeted
+  delivered = heard 4 1 (frame wordy) (Outcome.Delivers message) ∷ message_read
+
+  abbrev list_read : List (Happening ℕ ℕ)
+  list_read = reads 5 1 list kind.Gossip ∷ delivered
 
   abbrev list_waits : List (Happening ℕ ℕ)
-  list_waits = heard 5 0 (frame list) (Outcome.Waits (waits list)) ∷ delivered
+  list_waits = heard 5 0 (frame list) (Outcome.Waits (waits list)) ∷ list_read
 
   abbrev listed : List (Happening ℕ ℕ)
   listed = heard 5 0 (Cause.OfVerdicts (true ∷ [])) (Outcome.Takes (signed 2 100000 ∷ [])) ∷ list_waits
 
+  abbrev question_read : List (Happening ℕ ℕ)
+  question_read = reads 6 0 (having false false) kind.Gossip ∷ listed
+
   abbrev answered : List (Happening ℕ ℕ)
-  answered = heard 5 0 (frame (having false false)) (Outcome.Answers (wire.spelling (payload.Peers (greeter ∷ [])))) ∷ listed
+  answered = heard 6 0 (frame (having false false)) (Outcome.Answers (wire.spelling (payload.Peers (greeter ∷ [])))) ∷ question_read
 
   abbrev asked_again : List (Happening ℕ ℕ)
   asked_again = Happening.Asked 1 1 (seconds 33) 1 (Some (asking (having false false))) ∷ answered
 
+  abbrev second_read : List (Happening ℕ ℕ)
+  second_read = reads 34 1 (1 ∷ []) kind.Gossip ∷ asked_again
+
   abbrev broken : List (Happening ℕ ℕ)
-  broken = heard 34 1 (frame (1 ∷ [])) (Outcome.Breaks breach.SecondGreeting (Some true)) ∷ asked_again
+  broken = heard 34 1 (frame (1 ∷ [])) (Outcome.Breaks breach.SecondGreeting (Some true)) ∷ second_read
 
   set_right : AreRight b set
   unfolding life IsStrictlySortedBy
@@ -149,28 +184,52 @@ module _ (given : Pace) where
   unfolding life
   proved_right = ((refl, refl), omega arith, claimed_right)
 
+  greeting_read_right : AreRight b greeting_read
+  unfolding groups spellings
+  greeting_read_right = (
+    record { number = refl; comes = refl; owes = refl; done = tt; paced = (refl, refl) },
+    omega arith,
+    proved_right,
+  )
+
   waits_right : AreRight b greeting_waits
   unfolding payload_at body_at length_at groups groups_at texts.info_at ingress_at ip_at socket_at
   waits_right = (
-    record { number = refl; comes = ((refl, refl), (greeter, refl, refl, refl, refl)); owes = refl; done = tt },
+    record { number = refl; comes = ((refl, refl), (greeter, refl, refl, refl, refl)); owes = refl; done = tt; paced = refl },
     omega arith,
-    proved_right,
+    greeting_read_right,
   )
 
   greeted_right : AreRight b greeted
   unfolding life payload_at body_at length_at groups groups_at texts.info_at ingress_at ip_at socket_at spellings packed
   greeted_right = (
-    record { number = refl; comes = (refl, (refl, refl)); owes = refl; done = (refl, refl, (0, refl, refl)) },
+    record { number = refl; comes = (refl, (refl, refl)); owes = refl; done = (refl, refl, (0, refl, refl)); paced = tt },
     omega arith,
     waits_right,
+  )
+
+  message_read_right : AreRight b message_read
+  unfolding groups groups_at
+  message_read_right = (
+    record { number = refl; comes = refl; owes = refl; done = tt; paced = (refl, refl, λ k a is. absurd cc) },
+    omega arith,
+    greeted_right,
   )
 
   delivered_right : AreRight b delivered
   unfolding payload_at body_at data_at message_at length_at groups groups_at
   delivered_right = (
-    record { number = refl; comes = (refl, refl, refl); owes = refl; done = tt },
+    record { number = refl; comes = (refl, refl, refl); owes = refl; done = tt; paced = refl },
     omega arith,
-    greeted_right,
+    message_read_right,
+  )
+
+  list_read_right : AreRight b list_read
+  unfolding groups groups_at spellings
+  list_read_right = (
+    record { number = refl; comes = refl; owes = refl; done = tt; paced = (refl, refl, λ k a is. absurd cc) },
+    omega arith,
+    delivered_right,
   )
 
   list_waits_right : AreRight b list_waits
@@ -181,17 +240,37 @@ module _ (given : Pace) where
       comes = (refl, refl, ((refl, refl), (signed 2 100000 ∷ [], refl, refl, refl, omega arith)));
       owes = refl;
       done = tt;
+      paced = refl;
     },
     omega arith,
-    delivered_right,
+    list_read_right,
   )
 
   listed_right : AreRight b listed
   unfolding payload_at body_at length_at groups groups_at texts.info_at ingress_at ip_at socket_at spellings elems items_at list_at
   listed_right = (
-    record { number = refl; comes = (refl, (refl, refl)); owes = refl; done = tt },
+    record { number = refl; comes = (refl, (refl, refl)); owes = refl; done = tt; paced = tt },
     omega arith,
     list_waits_right,
+  )
+
+  after_one : (k a : ℕ) → slice_get (as_nanos (seconds 5) ∷ []) k ≡ Some a →
+      (k + 2) * as_nanos (seconds 1) ≤ non_zero_u32_get given.burst * as_nanos (seconds 1) + (as_nanos (seconds 6) - a)
+  after_one zero a is = let five : as_nanos (seconds 5) ≡ a = cc in omega (arith, given.burst.ok, five)
+  after_one (suc k) a is = absurd cc
+
+  after_two : (k a : ℕ) → slice_get (as_nanos (seconds 6) ∷ as_nanos (seconds 5) ∷ []) k ≡ Some a →
+      (k + 2) * as_nanos (seconds 1) ≤ non_zero_u32_get given.burst * as_nanos (seconds 1) + (as_nanos (seconds 34) - a)
+  after_two zero a is = let six : as_nanos (seconds 6) ≡ a = cc in omega (arith, given.burst.ok, six)
+  after_two (suc zero) a is = let five : as_nanos (seconds 5) ≡ a = cc in omega (arith, given.burst.ok, five)
+  after_two (suc (suc k)) a is = absurd cc
+
+  question_read_right : AreRight b question_read
+  unfolding groups groups_at packed spellings
+  question_read_right = (
+    record { number = refl; comes = refl; owes = refl; done = tt; paced = (refl, refl, after_one) },
+    omega arith,
+    listed_right,
   )
 
   answered_right : AreRight b answered
@@ -202,9 +281,10 @@ module _ (given : Pace) where
       comes = (refl, refl, (record { index = 0; bits = false ∷ false ∷ [] }, greeter ∷ [], refl, refl, refl));
       owes = refl;
       done = tt;
+      paced = refl;
     },
     omega arith,
-    listed_right,
+    question_read_right,
   )
 
   asked_again_right : AreRight b asked_again
@@ -215,13 +295,21 @@ module _ (given : Pace) where
     answered_right,
   )
 
+  second_read_right : AreRight b second_read
+  unfolding groups groups_at packed spellings
+  second_read_right = (
+    record { number = refl; comes = refl; owes = refl; done = tt; paced = (refl, refl, after_two) },
+    omega arith,
+    asked_again_right,
+  )
+
   -- all of it is right
   pub right : AreRight b broken
   unfolding life
   right = (
-    record { number = refl; comes = refl; owes = refl; done = refl },
+    record { number = refl; comes = refl; owes = refl; done = refl; paced = refl },
     omega arith,
-    asked_again_right,
+    second_read_right,
   )
 
   -- it was asked twice, one list was admitted, and it has greeted

@@ -18,7 +18,10 @@ use Rattle.p2p_driver.specs.Arrivals.{has_number, arrival_of, arrived, claimed, 
 use Rattle.p2p_driver.specs.Frames.{Cause, Outcome}
 use Rattle.p2p_driver.specs.Happenings.{Happening, time_by, latest_at, latest_of, calls_of, calls_by, came_by, leaves_by, claim_by, is_new, answered_in, answered_by, is_proved, is_ended, link_at, opened_by, ends_by, said, says_by, taken, taken_by, crowded_out, sent, shut, shut_all, parted, calls_for, heard_as, answered_on, asking_on, why_late}
 use Rattle.p2p_driver.specs.Links.{link_of, link_with, asking, closed}
+use Rattle.p2p_driver.specs.Meters.{MetersView}
 use Rattle.p2p_driver.specs.Questions.{asked_after}
+use Rattle.p2p_driver.specs.Reading.{begins_as, ends_as, read_by, AreMetered}
+use Rattle.p2p_driver.specs.Reads.{reads_of, unread}
 use Rattle.p2p_driver.specs.declared.questions.Question.{Question}
 use Rattle.p2p_driver.specs.Drivers.{DriverView, Base, DriverStandsAt, IsRight, IsInTime, AreStreams, IsLinkOf}
 use Rattle.p2p_driver.specs.declared.actions.Action.{Action}
@@ -28,7 +31,9 @@ use Rattle.p2p_driver.specs.declared.arrivals.Room.TheVariants as room
 use Rattle.p2p_driver.specs.declared.links.Held.{Held}
 use Rattle.p2p_driver.specs.declared.origin.Origin.{Origin}
 use Rattle.std.proofs.lemmas.List.{append-nil}
+use Rattle.p2p_driver.specs.declared.pace.Pace.{Pace}
 use Rattle.p2p_driver.proofs.Answered.{kept_at_later}
+use Rattle.p2p_driver.proofs.Metered.{metered_later, metered_stays, metered_begins, metered_ends}
 use Rattle.p2p_driver.proofs.StreamHistory.{streams_stay, streams_leave, streams_claim, streams_come, next_stays, next_rises}
 use Rattle.p2p_driver.proofs.LinkHistory.{touch_by, untouched, closing_if, link_after, link_stays, link_later, link_opens, link_hears, link_asks, ended_link, closed_link, said_more, took_one}
 
@@ -47,6 +52,14 @@ module _ {C S : Type 0} (b : Base C S) (h : List (Happening C S)) (v : DriverVie
   pub answers_later : (t : ℕ) → v.latest ≤ t → AreKept b.pace t (answered_in h) v.answers
   answers_later t after = kept_at_later b.pace (latest_at h) (answered_in h) v.answers t at.answers
       (subst (λ l. l ≤ t) at.latest after)
+
+  -- the frames that were read, later
+  pub reads_at : (t : ℕ) → v.latest ≤ t → AreMetered b.pace t h v.reads
+  reads_at t after = metered_later b.pace (latest_at h) t h v.reads (subst (λ l. l ≤ t) at.latest after) at.reads
+
+  pub reads_later : (e : Happening C S) (t : ℕ) → v.latest ≤ t → ((j : ℕ) → begins_as j e ≡ None) → ((j : ℕ) → ends_as j e ≡ false) →
+      ((j : ℕ) (place : Option ℕ) → read_by j place e ≡ []) → AreMetered b.pace t (e ∷ h) v.reads
+  reads_later e t after begins ends none = metered_stays b.pace t e h v.reads begins ends none (reads_at t after)
 
   in_time : (t : ℕ) → v.latest ≤ t → latest_at h ≤ t
   in_time t after = subst (λ l. l ≤ t) at.latest after
@@ -95,6 +108,7 @@ module _ {C S : Type 0} (b : Base C S) (h : List (Happening C S)) (v : DriverVie
         (arrived (arrival_of n origin t) space v.arrivals)) (sym at.next)
         (streams_come origin t space h v.arrivals some at.arrivals);
     answers = answers_later (as_nanos t) after;
+    reads = reads_later e (as_nanos t) after (λ j. refl) (λ j. refl) (λ j place. refl);
     links = links_stay e (λ p. refl) (λ p. refl) (λ p. refl);
     count = count_stays e refl refl;
     actions = says (crowded_out space) e refl refl;
@@ -132,6 +146,7 @@ module _ {C S : Type 0} (b : Base C S) (h : List (Happening C S)) (v : DriverVie
         next = at.next ∙ sym (next_stays e h refl);
         arrivals = streams_claim n p e h v.arrivals refl (λ j. refl) (λ j. refl) (λ j. refl) at.arrivals;
         answers = kept;
+        reads = reads_later e (as_nanos t) after (λ j. refl) (λ j. refl) (λ j place. refl);
         links = links_stay e (λ p. refl) (λ p. refl) (λ p. refl);
         count = count_stays e refl refl;
         actions = says_nothing e refl refl;
@@ -144,7 +159,8 @@ module _ {C S : Type 0} (b : Base C S) (h : List (Happening C S)) (v : DriverVie
       ((j : ℕ) → claim_by j e ≡ None) → answered_by e ≡ [] → calls_by e ≡ [] →
       ((p : C) → opened_by d p e ≡ None) → ((p : C) → ends_by d p e ≡ false) →
       ((p : C) → touch_by d p e ≡ untouched) → is_ended e ≡ false → is_proved e ≡ false → time_by e ≡ Some t → taken_by e ≡ [] →
-      says_by d b.greeting h e ≡ told → IsRight b h e → v.latest ≤ as_nanos t →
+      says_by d b.greeting h e ≡ told → ((j : ℕ) → begins_as j e ≡ None) → ((j : ℕ) → ends_as j e ≡ false) →
+      ((j : ℕ) (place : Option ℕ) → read_by j place e ≡ []) → IsRight b h e → v.latest ≤ as_nanos t →
       AreKept b.pace (as_nanos t) (answered_in h) answers →
       DriverStandsAt b (e ∷ h) (record v {
         latest = as_nanos t;
@@ -152,7 +168,7 @@ module _ {C S : Type 0} (b : Base C S) (h : List (Happening C S)) (v : DriverVie
         answers = answers;
         actions = v.actions ++ told;
       })
-  goes n t e told answers new came leaves claim answered calls opened ends touch ended proved time none is right after kept = record {
+  goes n t e told answers new came leaves claim answered calls opened ends touch ended proved time none is begins over unread right after kept = record {
     node = subst (λ cs. NodeStandsAt b.made (cs ++ calls_of h) v.node) (sym calls) at.node;
     pace = at.pace;
     greeting = at.greeting;
@@ -163,6 +179,9 @@ module _ {C S : Type 0} (b : Base C S) (h : List (Happening C S)) (v : DriverVie
     answers = subst (λ t. AreKept b.pace t (answered_in (e ∷ h)) answers)
         (sym (ap (λ o. latest_of (found_with o e (last_with time_by h))) time))
         (subst (λ cs. AreKept b.pace (as_nanos t) (cs ++ answered_in h) answers) (sym answered) kept);
+    reads = subst (λ t. AreMetered b.pace t (e ∷ h) v.reads)
+        (sym (ap (λ o. latest_of (found_with o e (last_with time_by h))) time))
+        (reads_later e (as_nanos t) after begins over unread);
     links = links_stay e opened ends touch;
     count = count_stays e ended proved;
     actions = says told e none is;
@@ -170,9 +189,10 @@ module _ {C S : Type 0} (b : Base C S) (h : List (Happening C S)) (v : DriverVie
   }
 
   -- a stream was proved: it is a link of its peer
-  pub proves : (n : ℕ) (p : C) (t draw : Duration) (node : NodeView C S) (links : List (C × Held)) (answers : AnswersView) →
+  pub proves : (n : ℕ) (p : C) (t draw : Duration) (node : NodeView C S) (reads : List (ℕ × MetersView)) (links : List (C × Held)) (answers : AnswersView) →
       IsRight b h (Happening.Proved n p t draw) → v.latest ≤ as_nanos t →
       NodeStandsAt b.made (Listen p (as_nanos t) (as_nanos draw) ∷ calls_of h) node →
+      ((j : ℕ) → reads_of reads j ≡ (if j == n then Some (unread (length v.pace.channels.items)) else reads_of v.reads j)) →
       ((q : C) → link_of d.cmp links q ≡ (if is_at (d.cmp p) q then Some (link_with n t) else link_of d.cmp v.links q)) →
       length links ≡ length v.links + 1 → AreKept b.pace (as_nanos t) (answered_in h) answers →
       DriverStandsAt b (Happening.Proved n p t draw ∷ h) (record v {
@@ -180,10 +200,11 @@ module _ {C S : Type 0} (b : Base C S) (h : List (Happening C S)) (v : DriverVie
         latest = as_nanos t;
         arrivals = filter (λ a. not (has_number n a)) v.arrivals;
         answers = answers;
+        reads = reads;
         links = links;
         actions = v.actions ++ sent n v.greeting;
       })
-  proves n p t draw node links answers right after made tied more kept =
+  proves n p t draw node reads links answers right after made empty tied more kept =
       let e : Happening C S = Happening.Proved n p t draw in record {
         node = made;
         pace = at.pace;
@@ -193,6 +214,8 @@ module _ {C S : Type 0} (b : Base C S) (h : List (Happening C S)) (v : DriverVie
         next = at.next ∙ sym (next_stays e h refl);
         arrivals = streams_leave n e h v.arrivals refl (λ j. refl) (λ j. refl) (λ j. refl) at.arrivals;
         answers = kept;
+        reads = metered_begins b.pace (as_nanos t) n (length v.pace.channels.items) p t draw h v.reads reads
+            (ap (λ (q : Pace). length q.channels.items) at.pace) empty (reads_at (as_nanos t) after);
         links = λ q. tied q ∙ ap (λ o. if is_at (d.cmp p) q then Some (link_with n t) else o) (at.links q)
             ∙ sym (link_opens d q p n t draw h);
         count = let ended = one_more is_ended e h false refl in let proved = one_more is_proved e h true refl in
@@ -203,17 +226,19 @@ module _ {C S : Type 0} (b : Base C S) (h : List (Happening C S)) (v : DriverVie
       }
 
   -- a link ended
-  pub ends : (n : ℕ) (p : C) (t : Duration) (node : NodeView C S) (links : List (C × Held)) →
+  pub ends : (n : ℕ) (p : C) (t : Duration) (node : NodeView C S) (reads : List (ℕ × MetersView)) (links : List (C × Held)) →
       IsLinkOf b h n p → v.latest ≤ as_nanos t → NodeStandsAt b.made (Release p ∷ calls_of h) node →
+      ((j : ℕ) → reads_of reads j ≡ (if j == n then None else reads_of v.reads j)) →
       ((q : C) → link_of d.cmp links q ≡ (if is_at (d.cmp p) q then None else link_of d.cmp v.links q)) →
       length links + 1 ≡ length v.links →
       DriverStandsAt b (Happening.Ended n p t ∷ h) (record v {
         node = node;
         latest = as_nanos t;
+        reads = reads;
         links = links;
         actions = v.actions ++ parted p (link_of d.cmp v.links p);
       })
-  ends n p t node links right after made tied less = let e : Happening C S = Happening.Ended n p t in record {
+  ends n p t node reads links right after made gone tied less = let e : Happening C S = Happening.Ended n p t in record {
     node = made;
     pace = at.pace;
     greeting = at.greeting;
@@ -222,6 +247,7 @@ module _ {C S : Type 0} (b : Base C S) (h : List (Happening C S)) (v : DriverVie
     next = at.next ∙ sym (next_stays e h refl);
     arrivals = streams_stay e h v.arrivals refl (λ j. refl) (λ j. refl) (λ j. refl) at.arrivals;
     answers = answers_later (as_nanos t) after;
+    reads = metered_ends b.pace (as_nanos t) n p t h v.reads reads gone (reads_at (as_nanos t) after);
     links = λ q. tied q ∙ ap (λ o. if is_at (d.cmp p) q then None else o) (at.links q)
         ∙ sym (link_later d q e h refl ∙ ended_link (is_at (d.cmp p) q) (link_at d q h));
     count = let ended = one_more is_ended e h true refl in let proved = one_more is_proved e h false refl in
@@ -263,6 +289,7 @@ module _ {C S : Type 0} (b : Base C S) (h : List (Happening C S)) (v : DriverVie
         next = at.next ∙ sym (next_stays e h refl);
         arrivals = streams_stay e h v.arrivals refl (λ j. refl) (λ j. refl) (λ j. refl) at.arrivals;
         answers = answers_later (as_nanos t) after;
+        reads = reads_later e (as_nanos t) after (λ j. refl) (λ j. refl) (λ j place. refl);
         links = λ q. links_closed e links q (has_key d.cmp torn q) refl refl refl (tied q);
         count = ap (λ k. k + count_by is_ended (e ∷ h)) same ∙ count_stays e refl refl;
         actions = says told e refl (sym (is ∙ ap (shut_all d.cmp torn) (λ i p. at.links p i)));
@@ -288,6 +315,7 @@ module _ {C S : Type 0} (b : Base C S) (h : List (Happening C S)) (v : DriverVie
     next = at.next ∙ sym (next_stays e h refl);
     arrivals = streams_stay e h v.arrivals refl (λ j. refl) (λ j. refl) (λ j. refl) at.arrivals;
     answers = answers_later (as_nanos t) after;
+    reads = reads_later e (as_nanos t) after (λ j. refl) (λ j. refl) (λ j place. refl);
     links = λ q. links_closed e links q (is_at (d.cmp p) q) refl refl refl (tied q);
     count = ap (λ k. k + count_by is_ended (e ∷ h)) same ∙ count_stays e refl refl;
     actions = says (shut p (why_late (link_of d.cmp v.links p)) (link_of d.cmp v.links p)) e refl
@@ -297,18 +325,20 @@ module _ {C S : Type 0} (b : Base C S) (h : List (Happening C S)) (v : DriverVie
 
   -- the peer of a link was heard
   pub hears : (n : ℕ) (p : C) (t : Duration) (owed : ℕ) (cause : Cause) (outcome : Outcome C S)
-      (node : NodeView C S) (links : List (C × Held)) →
+      (node : NodeView C S) (reads : List (ℕ × MetersView)) (links : List (C × Held)) →
       IsRight b h (Happening.Heard n p t owed cause outcome) → v.latest ≤ as_nanos t →
       NodeStandsAt b.made (calls_for p t outcome ++ calls_of h) node →
+      AreMetered b.pace (as_nanos t) (Happening.Heard n p t owed cause outcome ∷ h) reads →
       ((q : C) → link_of d.cmp links q ≡ (if is_at (d.cmp p) q then option_map (heard_as t owed outcome) (link_of d.cmp v.links q) else link_of d.cmp v.links q)) →
       length links ≡ length v.links →
       DriverStandsAt b (Happening.Heard n p t owed cause outcome ∷ h) (record v {
         node = node;
         latest = as_nanos t;
+        reads = reads;
         links = links;
         actions = v.actions ++ answered_on n p outcome (link_of d.cmp v.links p);
       })
-  hears n p t owed cause outcome node links right after made tied same =
+  hears n p t owed cause outcome node reads links right after made metered tied same =
       let e : Happening C S = Happening.Heard n p t owed cause outcome in record {
         node = made;
         pace = at.pace;
@@ -318,6 +348,7 @@ module _ {C S : Type 0} (b : Base C S) (h : List (Happening C S)) (v : DriverVie
         next = at.next ∙ sym (next_stays e h refl);
         arrivals = streams_stay e h v.arrivals refl (λ j. refl) (λ j. refl) (λ j. refl) at.arrivals;
         answers = answers_later (as_nanos t) after;
+        reads = metered;
         links = λ q. tied q ∙ ap (λ o. if is_at (d.cmp p) q then option_map (heard_as t owed outcome) o else o) (at.links q)
             ∙ sym (link_hears d q p n t owed cause outcome h);
         count = ap (λ k. k + count_by is_ended (e ∷ h)) same ∙ count_stays e refl refl;
@@ -344,6 +375,7 @@ module _ {C S : Type 0} (b : Base C S) (h : List (Happening C S)) (v : DriverVie
     next = at.next ∙ sym (next_stays e h refl);
     arrivals = streams_stay e h v.arrivals refl (λ j. refl) (λ j. refl) (λ j. refl) at.arrivals;
     answers = answers_later (as_nanos t) after;
+    reads = reads_later e (as_nanos t) after (λ j. refl) (λ j. refl) (λ j place. refl);
     links = λ q. tied q ∙ ap (λ o. if is_at (d.cmp p) q then option_map (λ x. asking owed (asked_after t question x.asked) x) o else o) (at.links q)
         ∙ sym (link_asks d q p n t owed question h);
     count = ap (λ k. k + count_by is_ended (e ∷ h)) same ∙ count_stays e refl refl;
@@ -364,6 +396,7 @@ module _ {C S : Type 0} (b : Base C S) (h : List (Happening C S)) (v : DriverVie
     next = at.next ∙ sym (next_stays e h refl);
     arrivals = streams_stay e h v.arrivals refl (λ j. refl) (λ j. refl) (λ j. refl) at.arrivals;
     answers = answers_later (as_nanos t) after;
+    reads = reads_later e (as_nanos t) after (λ j. refl) (λ j. refl) (λ j place. refl);
     links = links_stay e (λ p. refl) (λ p. refl) (λ p. refl);
     count = count_stays e refl refl;
     actions = says_nothing e refl refl;
@@ -391,6 +424,7 @@ module _ {C S : Type 0} (b : Base C S) (h : List (Happening C S)) (v : DriverVie
     next = at.next ∙ sym (next_stays e h refl);
     arrivals = streams_stay e h v.arrivals refl (λ j. refl) (λ j. refl) (λ j. refl) at.arrivals;
     answers = answers_later (as_nanos t) after;
+    reads = reads_later e (as_nanos t) after (λ j. refl) (λ j. refl) (λ j place. refl);
     links = λ q. links_closed e links q (is_at (d.cmp p) q) refl refl refl (tied q);
     count = ap (λ k. k + count_by is_ended (e ∷ h)) same ∙ count_stays e refl refl;
     actions = says (shut p why.Blocked (link_of d.cmp v.links p)) e refl (ap (shut p why.Blocked) (sym (at.links p)));
@@ -416,6 +450,7 @@ module _ {C S : Type 0} (b : Base C S) (h : List (Happening C S)) (v : DriverVie
     next = at.next ∙ sym (next_stays e h refl);
     arrivals = streams_stay e h v.arrivals refl (λ j. refl) (λ j. refl) (λ j. refl) at.arrivals;
     answers = answers_later (as_nanos t) after;
+    reads = reads_later e (as_nanos t) after (λ j. refl) (λ j. refl) (λ j place. refl);
     links = λ q. links_closed e links q (is_at (d.cmp p) q) refl refl refl (tied q);
     count = ap (λ k. k + count_by is_ended (e ∷ h)) same ∙ count_stays e refl refl;
     actions = says (shut p why.Application (link_of d.cmp v.links p)) e refl (ap (shut p why.Application) (sym (at.links p)));
@@ -435,6 +470,7 @@ module _ {C S : Type 0} (b : Base C S) (h : List (Happening C S)) (v : DriverVie
     next = at.next ∙ sym (next_stays e h refl);
     arrivals = streams_stay e h v.arrivals refl (λ j. refl) (λ j. refl) (λ j. refl) at.arrivals;
     answers = answers_later (as_nanos t) after;
+    reads = reads_later e (as_nanos t) after (λ j. refl) (λ j. refl) (λ j place. refl);
     links = links_stay e (λ p. refl) (λ p. refl) (λ p. refl);
     count = count_stays e refl refl;
     actions = says_nothing e refl refl;
@@ -464,6 +500,8 @@ module _ {C S : Type 0} (b : Base C S) (h : List (Happening C S)) (v : DriverVie
         next = at.next ∙ sym (next_stays e h refl);
         arrivals = streams_stay e h v.arrivals refl (λ j. refl) (λ j. refl) (λ j. refl) at.arrivals;
         answers = subst (λ t. AreKept b.pace t (answered_in h) v.answers) (latest_stays e refl) at.answers;
+        reads = subst (λ t. AreMetered b.pace t (e ∷ h) v.reads) (latest_stays e refl)
+            (metered_stays b.pace (latest_at h) e h v.reads (λ j. refl) (λ j. refl) (λ j place. refl) at.reads);
         links = links_stay e (λ p. refl) (λ p. refl) (λ p. refl);
         count = count_stays e refl refl;
         actions = says_nothing e refl refl;
@@ -482,6 +520,8 @@ module _ {C S : Type 0} (b : Base C S) (h : List (Happening C S)) (v : DriverVie
     next = at.next ∙ sym (next_stays e h refl);
     arrivals = streams_stay e h v.arrivals refl (λ j. refl) (λ j. refl) (λ j. refl) at.arrivals;
     answers = subst (λ t. AreKept b.pace t (answered_in h) v.answers) (latest_stays e refl) at.answers;
+    reads = subst (λ t. AreMetered b.pace t (e ∷ h) v.reads) (latest_stays e refl)
+        (metered_stays b.pace (latest_at h) e h v.reads (λ j. refl) (λ j. refl) (λ j place. refl) at.reads);
     links = links_stay e (λ p. refl) (λ p. refl) (λ p. refl);
     count = count_stays e refl refl;
     actions = took_one (taken h) later (said d b.greeting h) a (ap (λ xs. taken h ++ xs) (sym is) ∙ at.actions);

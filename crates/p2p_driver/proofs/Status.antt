@@ -261,6 +261,9 @@ module _ {C S : Type 0} (b : Base C S) where
     heard cs q t (Outcome.Breaks breach (Some taken)) p = blocked cs q (as_nanos t) p
     heard cs q t (Outcome.Breaks breach None) p = refl
     heard cs q t Outcome.IsEarly p = refl
+    heard cs q t Outcome.LacksChannel p = refl
+    heard cs q t (Outcome.Delays next) p = refl
+    heard cs q t (Outcome.Reads kind looked) p = refl
 
     ended_or : (x : Bool) (st : Status) → status_with x false st ≡ (if x then Inert else st)
     ended_or true st = refl

@@ -14,7 +14,7 @@ use Rattle.p2p_driver.specs.declared.links.Phase.TheVariants as phase
 use Rattle.p2p_driver.specs.declared.links.Waiting.{Waiting}
 use Rattle.p2p_driver.specs.Frames.{Cause, Outcome, IsWaiting, IsOutcome}
 use Rattle.p2p_driver.specs.Happenings.{Happening, calls_of, opened_by, ends_by, heard_as}
-use Rattle.p2p_driver.specs.Links.{link_of, link_with, closed, opened, hearing, asking, waiting_in}
+use Rattle.p2p_driver.specs.Links.{link_of, link_with, closed, opened, hearing, asking, unless_closing}
 use Rattle.p2p_driver.specs.Questions.{asked_after}
 use Rattle.p2p_driver.specs.declared.questions.Question.{Question}
 use Rattle.p2p_driver.specs.Drivers.{DriverView, Base, DriverStandsAt, AreRight, IsHeard, link, standing}
@@ -67,10 +67,14 @@ module _ {C S : Type 0} (b : Base C S) where
       IsWaiting d.cmp b.wire (standing b []).limits (standing b []).judge ph p w
   waits cs p phase.Greeting owed None (Cause.OfFrame frame wall) w comes = comes.1
   waits cs p phase.Greeting owed None (Cause.OfVerdicts verdicts) w comes = absurd comes
+  waits cs p phase.Greeting owed None (Cause.OfHead longest head size) w comes = absurd cc
+  waits cs p phase.Greeting owed (Some old) (Cause.OfHead longest head size) w comes = absurd comes
   waits cs p phase.Greeting owed (Some old) (Cause.OfFrame frame wall) w comes = absurd comes
   waits cs p phase.Greeting owed (Some old) (Cause.OfVerdicts verdicts) w comes = absurd comes.1.2
   waits cs p phase.Open owed None (Cause.OfFrame frame wall) w comes = comes.2.1
   waits cs p phase.Open owed None (Cause.OfVerdicts verdicts) w comes = absurd comes
+  waits cs p phase.Open owed None (Cause.OfHead longest head size) w comes = absurd cc
+  waits cs p phase.Open owed (Some old) (Cause.OfHead longest head size) w comes = absurd comes
   waits cs p phase.Open owed (Some old) (Cause.OfFrame frame wall) w comes = absurd comes
   waits cs p phase.Open owed (Some old) (Cause.OfVerdicts verdicts) w comes = absurd comes.1.2
   waits cs p phase.Closing owed waiting c w comes = absurd comes
@@ -82,12 +86,12 @@ module _ {C S : Type 0} (b : Base C S) where
   whatever cs p phase.Open w may = may
   whatever cs p phase.Closing w may = absurd may
 
-  in_phase : (ph : Phase) (w v : Waiting) → waiting_in ph (Some w) ≡ Some v → w ≡ v
+  in_phase : (ph : Phase) (w v : Waiting) → unless_closing ph (Some w) ≡ Some v → w ≡ v
   in_phase phase.Greeting w v is = some_is is
   in_phase phase.Open w v is = some_is is
   in_phase phase.Closing w v is = absurd (none_waits v is)
 
-  none_in : (ph : Phase) → waiting_in ph None ≡ None
+  none_in : (ph : Phase) → unless_closing {A = Waiting} ph None ≡ None
   none_in phase.Greeting = refl
   none_in phase.Open = refl
   none_in phase.Closing = refl
@@ -95,17 +99,22 @@ module _ {C S : Type 0} (b : Base C S) where
   -- a link whose peer was heard
   hears : (p : C) (held : Held) (t : Duration) (owed : ℕ) (outcome : Outcome C S) →
       ((w : Waiting) → outcome ≡ Outcome.Waits w → IsWaiting d.cmp b.wire (standing b []).limits (standing b []).judge held.phase p w) →
-      MayWait p (Some (heard_as t owed outcome held))
-  hears p held t owed (Outcome.Waits v) may = λ x is.
+      MayWait p (Some held) → MayWait p (Some (heard_as t owed outcome held))
+  hears p held t owed (Outcome.Waits v) may before = λ x is.
       subst (λ (y : Held). (w : Waiting) → y.waiting ≡ Some w → IsWaiting d.cmp b.wire (standing b []).limits (standing b []).judge y.phase p w) (some_is is)
       (λ w now. subst (IsWaiting d.cmp b.wire (standing b []).limits (standing b []).judge held.phase p) (in_phase held.phase v w now) (may v refl))
-  hears p held t owed (Outcome.Greets info question) may = without p (opened t owed (asked_after t question held.asked) held) refl
-  hears p held t owed (Outcome.Takes infos) may = without p (hearing t owed None held) (none_in held.phase)
-  hears p held t owed (Outcome.Answers reply) may = without p (hearing t owed None held) (none_in held.phase)
-  hears p held t owed (Outcome.Delivers message) may = without p (hearing t owed None held) (none_in held.phase)
-  hears p held t owed Outcome.Ignores may = without p (hearing t owed None held) (none_in held.phase)
-  hears p held t owed (Outcome.Breaks breach blocked) may = without p (closed held) refl
-  hears p held t owed Outcome.IsEarly may = without p (closed held) refl
+  hears p held t owed (Outcome.Greets info question) may before = without p (opened t owed (asked_after t question held.asked) held) refl
+  hears p held t owed (Outcome.Takes infos) may before = without p (hearing t owed None held) (none_in held.phase)
+  hears p held t owed (Outcome.Answers reply) may before = without p (hearing t owed None held) (none_in held.phase)
+  hears p held t owed (Outcome.Delivers message) may before = without p (hearing t owed None held) (none_in held.phase)
+  hears p held t owed Outcome.Ignores may before = without p (hearing t owed None held) (none_in held.phase)
+  hears p held t owed (Outcome.Breaks breach blocked) may before = without p (closed held) refl
+  hears p held t owed Outcome.IsEarly may before = without p (closed held) refl
+  hears p held t owed Outcome.LacksChannel may before = without p (closed held) refl
+  hears p held t owed (Outcome.Delays next) may before = without p (hearing t owed None held) (none_in held.phase)
+  hears p held t owed (Outcome.Reads kind looked) may before = λ x is w waits.
+      subst (λ (y : Held). y.waiting ≡ Some w → IsWaiting d.cmp b.wire (standing b []).limits (standing b []).judge y.phase p w) (some_is is)
+      (before held refl w) waits
 
   module _ (exact : CmpEqualImpliesEq b.made.directory.cmp) where
     -- the link of p, since q was heard
@@ -114,14 +123,15 @@ module _ {C S : Type 0} (b : Base C S) where
         MayWait p (if same d q p then option_map (heard_as t owed outcome) (link b p h) else link b p h)
     heard h p q n t owed c outcome right may = go (same d q p) refl
       where
-        at : (o : Option Held) → IsSomeAnd o (IsHeard b h n p t owed c outcome) → MayWait p (option_map (heard_as t owed outcome) o)
-        at None right = absurd right
-        at (Some held) right = hears p held t owed outcome (λ w is. waits (calls_of h) p held.phase held.owed held.waiting c w
-            (subst (IsOutcome d.cmp b.wire (standing b (calls_of h)) held.phase held.owed held.waiting p c) is right.comes))
+        at : (o : Option Held) → IsSomeAnd o (IsHeard b h n p t owed c outcome) → MayWait p o →
+            MayWait p (option_map (heard_as t owed outcome) o)
+        at None right may = absurd right
+        at (Some held) right may = hears p held t owed outcome (λ w is. waits (calls_of h) p held.phase held.owed held.waiting c w
+            (subst (IsOutcome d.cmp b.wire (standing b (calls_of h)) held.phase held.owed held.waiting p c) is right.comes)) may
 
         go : (x : Bool) → same d q p ≡ x →
             MayWait p (if x then option_map (heard_as t owed outcome) (link b p h) else link b p h)
-        go true is = at (link b p h) (subst (λ r. IsSomeAnd (link b r h) (IsHeard b h n r t owed c outcome)) (tells_apart exact q p is) right)
+        go true is = at (link b p h) (subst (λ r. IsSomeAnd (link b r h) (IsHeard b h n r t owed c outcome)) (tells_apart exact q p is) right) may
         go false is = may
 
     stays : (e : Happening C S) (h : List (Happening C S)) (p : C) → link b p (e ∷ h) ≡ link b p h →

@@ -1,7 +1,8 @@
 -- What calls answer to frames and verdicts: v before the call, v2 after it.
-use Rattle.std.specs.Prelude.{ℕ, ◌≡◌, Bool, true, false, List, [], length, Some, None}
+use Rattle.std.specs.Prelude.{ℕ, ◌≡◌, ◌⊎◌, Bool, true, false, List, [], length, Some, None}
 use Rattle.std.specs.Prelude.{is_some, Result, Ok, Err}
 use Rattle.std.specs.Option.{IsSomeAnd}
+use Rattle.std.specs.Duration.{as_nanos}
 use Rattle.std.specs.declared.cmp.Ordering.{Ordering}
 use Rattle.std.specs.declared.time.Duration.{Duration}
 use Rattle.p2p_discovery.specs.Judgement.{judge_of}
@@ -9,17 +10,21 @@ use Rattle.p2p_directory.specs.Nodes.{NodeView}
 use Rattle.p2p_directory.specs.Received.{Wire}
 use Rattle.p2p_driver.specs.Drivers.{DriverView, DoesAt}
 use Rattle.p2p_driver.specs.Frames.{Cause, Outcome, is_greeting_frame, is_unasked}
-use Rattle.p2p_driver.specs.Frames.Cause.{OfFrame, OfVerdicts}
-use Rattle.p2p_driver.specs.Happenings.{Happening}
+use Rattle.p2p_driver.specs.Frames.Cause.{OfFrame, OfVerdicts, OfHead}
+use Rattle.p2p_driver.specs.Happenings.{Happening, is_closing, looked_by}
+use Rattle.p2p_driver.specs.Heads.{kind_of}
 use Rattle.p2p_driver.specs.Hearing.{IsMessage, TellsFirst, TellsNext}
-use Rattle.p2p_driver.specs.Links.{link_of}
+use Rattle.p2p_driver.specs.Links.{link_of, is_open, is_expected, is_unexpected}
 use Rattle.p2p_driver.specs.declared.actions.Why.TheVariants as why
 use Rattle.p2p_driver.specs.declared.admission.Admission.{Admission}
 use Rattle.p2p_driver.specs.declared.admission.Admission.TheVariants as admission
 use Rattle.p2p_driver.specs.declared.admission.Heard.{Heard}
 use Rattle.p2p_driver.specs.declared.admission.Heard.TheVariants as heard
 use Rattle.p2p_driver.specs.declared.admission.Misjudged.{Misjudged}
+use Rattle.p2p_driver.specs.declared.admission.Read.{Read}
+use Rattle.p2p_driver.specs.declared.admission.Read.TheVariants as read
 use Rattle.p2p_driver.specs.declared.frames.Came.{Came}
+use Rattle.p2p_driver.specs.declared.heads.Kind.{Kind}
 use Rattle.p2p_driver.specs.declared.links.Held.{Held}
 use Rattle.p2p_driver.specs.declared.links.Phase.{Phase}
 use Rattle.p2p_driver.specs.declared.links.Phase.TheVariants as phase
@@ -62,6 +67,13 @@ module _ {C S : Type 0} (cmp : C → C → Ordering) where
   HasNoLink n v = (p : C) (held : Held) → link_of cmp v.links p ≡ Some held →
       held.number ≡ n → ⊥
 
+  -- a frame of this kind is to come on link n of p, by its first bytes and its length
+  abbrev pub LooksOn : ℕ → ℕ → C → ℕ → List ℕ → ℕ → Kind → DriverView C S → Type 0
+  LooksOn longest n p owed head size k v = IsSomeAnd (link_of cmp v.links p) (λ held.
+      (held.number ≡ n) × (held.owed ≡ owed) × (held.waiting ≡ None)
+      × (¬ (held.phase ≡ phase.Closing)) × (k ≡ kind_of longest v.pace.channels.items
+      v.node.limits (is_open held.phase) head size))
+
 module _ {C S : Type 0} (cmp : C → C → Ordering) (wire : Wire C S) where
   -- the peer of link n is heard, and such an outcome comes of it
   abbrev pub HearsOf : ℕ → Cause → ℕ → (Outcome C S → Type 0) → DriverView C S → DriverView C S →
@@ -76,11 +88,27 @@ module _ {C S : Type 0} (cmp : C → C → Ordering) (wire : Wire C S) where
   AnswersFrame n frame wall now admission.Closing v v2 = (v2 ≡ v)
       × HasLink cmp n v (λ held. held.phase ≡ phase.Closing)
   AnswersFrame n frame wall now admission.Unasked v v2 = (v2 ≡ v)
-      × HasLink cmp n v (λ held. is_some held.waiting ≡ true)
+      × HasLink cmp n v (λ held. (is_some held.waiting ≡ true)
+      ⊎ (is_unexpected frame held ≡ true))
   AnswersFrame n frame wall now (admission.Heard heard.Dropped) v v2 = (v2 ≡ v)
-      × HasLink cmp n v (λ held. (held.waiting ≡ None) × IsRead held.phase held.owed frame)
+      × HasLink cmp n v (λ held. (held.waiting ≡ None) × (is_expected frame held ≡ true)
+      × IsRead held.phase held.owed frame)
   AnswersFrame n frame wall now a v v2 =
       HearsOf n (OfFrame frame wall) now (λ outcome. IsAdmitted frame outcome a) v v2
+
+  -- `length`, where no info is longer than so much
+  abbrev pub AnswersLength : ℕ → ℕ → List ℕ → ℕ → ℕ → Read → DriverView C S → DriverView C S →
+      Type 0
+  AnswersLength longest n head size now read.Unknown v v2 = (v2 ≡ v) × HasNoLink cmp n v
+  AnswersLength longest n head size now read.Judging v v2 = (v2 ≡ v)
+      × HasLink cmp n v (λ held. is_some held.waiting ≡ true)
+  AnswersLength longest n head size now read.Closing v v2 =
+      ((v2 ≡ v) × HasLink cmp n v (λ held. held.phase ≡ phase.Closing))
+      ⊎ HearsOf n (OfHead longest head size) now (λ outcome. is_closing outcome ≡ true) v v2
+  AnswersLength longest n head size now read.Now v v2 =
+      HearsOf n (OfHead longest head size) now (λ outcome. is_some (looked_by outcome) ≡ true) v v2
+  AnswersLength longest n head size now (read.After next) v v2 = HearsOf n
+      (OfHead longest head size) now (λ outcome. outcome ≡ Outcome.Delays (as_nanos next)) v v2
 
   -- `judged`
   abbrev pub AnswersVerdicts : ℕ → List Bool → ℕ → Result Heard Misjudged → DriverView C S →
@@ -106,4 +134,4 @@ module _ {C S : Type 0} (cmp : C → C → Ordering) (wire : Wire C S) where
   abbrev pub CameOn : ℕ → C → ℕ → List ℕ → Duration → Came → DriverView C S → Type 0
   CameOn n p owed frame wall c v = IsSomeAnd (link_of cmp v.links p) (λ held.
       (held.number ≡ n) × (held.owed ≡ owed) × (held.waiting ≡ None)
-      × SeenIn held.phase p owed frame wall c v.node)
+      × (is_expected frame held ≡ true) × SeenIn held.phase p owed frame wall c v.node)

@@ -23,7 +23,9 @@ use Rattle.p2p_driver.specs.Answers.{AnswersView, AreKept, MayAnswer, IsClaimRef
 use Rattle.p2p_driver.specs.Arrivals.{has_number, is_unclaimed, deadline_of, room_of}
 use Rattle.p2p_driver.specs.Frames.{Cause, Outcome, IsOutcome, owed_after}
 use Rattle.p2p_driver.specs.Links.{link_of, needs, is_late, is_to_ask}
+use Rattle.p2p_driver.specs.Meters.{MetersView}
 use Rattle.p2p_driver.specs.Questions.{owed_with, IsQuestion}
+use Rattle.p2p_driver.specs.Reading.{AreMetered, IsPaced}
 use Rattle.p2p_driver.specs.Steps.{is_claim_of, no_proof_of, IsBlock, IsDone}
 use Rattle.p2p_driver.specs.Happenings.{Happening, latest_at, calls_of, next_at, stream_at}
 use Rattle.p2p_driver.specs.Happenings.{answered_in, link_count, is_proved, is_ended, link_at}
@@ -40,7 +42,7 @@ use Rattle.p2p_driver.specs.declared.questions.Question.{Question}
 
 -- WHAT IS SEEN of a driver: its node, settings, own greeting and cooldown, the latest time, the
 -- number of the next stream, the streams that aren't proved, the claims that were answered, the
--- links of peers, and the actions that the host hasn't taken
+-- frames that were read of links, the links of peers, and the actions that the host hasn't taken
 pub record DriverView (C S : Type 0) : Type 0 where
   pub node : NodeView C S
   pub pace : Pace
@@ -50,13 +52,14 @@ pub record DriverView (C S : Type 0) : Type 0 where
   pub next : ℕ
   pub arrivals : List (Arrival C)
   pub answers : AnswersView
+  pub reads : List (ℕ × MetersView)
   pub links : List (C × Held)
   pub actions : List (Action C)
 
 -- .. of its parts: of the node all but slots, of the claims all but the room for more
 abbrev pub seen : {C S : Type 0} → NodeView C S → Pace → List ℕ → ℕ → ℕ → ℕ → List (Arrival C) →
-    AnswersView → List (C × Held) → List (Action C) → DriverView C S
-seen node pace greeting cooldown latest next arrivals answers links actions = record {
+    AnswersView → List (ℕ × MetersView) → List (C × Held) → List (Action C) → DriverView C S
+seen node pace greeting cooldown latest next arrivals answers reads links actions = record {
   node = record node { slots = [] };
   pace = pace;
   greeting = greeting;
@@ -65,6 +68,7 @@ seen node pace greeting cooldown latest next arrivals answers links actions = re
   next = next;
   arrivals = arrivals;
   answers = roomless answers;
+  reads = reads;
   links = links;
   actions = actions;
 }
@@ -174,6 +178,7 @@ module _ {C S : Type 0} (b : Base C S) where
         cause outcome
     pub owes : owed ≡ owed_after held.phase outcome b.pace.owed held.owed
     pub done : IsDone b.wire b.made b.pace.refresh held.asked (calls_of h) p t outcome
+    pub paced : IsPaced b.pace h n (as_nanos t) b.made.limits held cause outcome
 
   -- a question was due at t for the peer p of link n, and asked if memory was there
   pub record IsAsked (h : List (Happening C S)) (n : ℕ) (p : C) (t : Duration) (owed : ℕ)
@@ -244,6 +249,7 @@ module _ {C S : Type 0} (b : Base C S) where
     pub next : v.next ≡ next_at h
     pub arrivals : AreStreams h v.arrivals
     pub answers : AreKept b.pace (latest_at h) (answered_in h) v.answers
+    pub reads : AreMetered b.pace (latest_at h) h v.reads
     pub links : (p : C) → link_of s.cmp v.links p ≡ link p h
     pub count : length v.links + count_by is_ended h ≡ count_by is_proved h
     pub actions : taken h ++ v.actions ≡ said s b.greeting h

@@ -19,9 +19,11 @@ use Rattle.p2p_discovery.specs.declared.discovery.PayloadConfig.{PayloadConfig}
 use Rattle.p2p_discovery.specs.Judgement.{Judge, refusal_if, list_refusal_by, to_verify}
 use Rattle.p2p_discovery.specs.Reading.{whole}
 use Rattle.p2p_directory.specs.Received.{Wire, Standing, first_verdict}
+use Rattle.p2p_driver.specs.Looked.{LookedView}
 use Rattle.p2p_driver.specs.Questions.{owed_with}
 use Rattle.p2p_driver.specs.declared.actions.Breach.{Breach}
 use Rattle.p2p_driver.specs.declared.actions.Breach.TheVariants as breach
+use Rattle.p2p_driver.specs.declared.heads.Kind.{Kind}
 use Rattle.p2p_driver.specs.declared.links.Phase.{Phase}
 use Rattle.p2p_driver.specs.declared.links.Phase.TheVariants as phase
 use Rattle.p2p_driver.specs.declared.links.Waiting.{Waiting}
@@ -33,6 +35,8 @@ pub data Cause : Type 0 where
   OfFrame : (frame : List ℕ) (wall : Duration) → Cause
   -- it was told which signatures are right in the frame that waits
   OfVerdicts : (verdicts : List Bool) → Cause
+  -- a frame is to come, with these first bytes and this length. No info is longer than so much
+  OfHead : (longest : ℕ) (head : List ℕ) (size : ℕ) → Cause
 
 -- what comes of it
 pub data Outcome (C S : Type 0) : Type 0 where
@@ -53,6 +57,12 @@ pub data Outcome (C S : Type 0) : Type 0 where
   Breaks : (breach : Breach) (blocked : Option Bool) → Outcome C S
   -- an info is of the future, and the link is closed
   IsEarly : Outcome C S
+  -- a frame may be read, of this kind, and handed in then
+  Reads : (kind : Kind) (looked : LookedView) → Outcome C S
+  -- .. but not before this moment
+  Delays : (next : ℕ) → Outcome C S
+  -- the frame is a message on a channel that isn't in the settings, and the link is closed
+  LacksChannel : Outcome C S
 
 -- the frame begins with this prefix
 abbrev pub begins_with : ℕ → List ℕ → Bool
@@ -76,6 +86,15 @@ abbrev pub owed_after : {C S : Type 0} → Phase → Outcome C S → ℕ → ℕ
 owed_after ph (Outcome.Greets info question) most owed = owed_with question most owed
 owed_after ph (Outcome.Waits waiting) most owed = owed - 1
 owed_after ph outcome most owed = owed
+
+-- what may come of the first bytes of a frame
+abbrev pub is_of_head : {C S : Type 0} → Outcome C S → Bool
+is_of_head (Outcome.Breaks breach.NoGreeting blocked) = true
+is_of_head (Outcome.Breaks breach.FrameLength blocked) = true
+is_of_head (Outcome.Reads kind looked) = true
+is_of_head (Outcome.Delays next) = true
+is_of_head Outcome.LacksChannel = true
+is_of_head outcome = false
 
 -- what waits after an outcome
 abbrev pub waiting_by : {C S : Type 0} → Outcome C S → Option Waiting
@@ -204,4 +223,8 @@ module _ {C S : Type 0} (cmp : C → C → Ordering) (wire : Wire C S) (node : S
   IsOutcome phase.Open owed (Some w) p (OfVerdicts verdicts) outcome =
       (length verdicts ≡ w.count)
       × ComesOfVerdicts cmp wire node.limits node.judge w verdicts outcome
+  IsOutcome phase.Greeting owed None p (OfHead longest head size) outcome =
+      is_of_head outcome ≡ true
+  IsOutcome phase.Open owed None p (OfHead longest head size) outcome =
+      is_of_head outcome ≡ true
   IsOutcome ph owed waiting p cause outcome = ⊥

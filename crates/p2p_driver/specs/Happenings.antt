@@ -14,7 +14,8 @@ use Rattle.p2p_tracker.specs.Calls.Call.{UnblockExpired, ForgetCooled}
 use Rattle.p2p_tracker.specs.History.{same, last_with}
 use Rattle.p2p_driver.specs.Questions.{asked_after, counted}
 use Rattle.p2p_driver.specs.Frames.{Cause, Outcome, waiting_by}
-use Rattle.p2p_driver.specs.Links.{closed, opened, hearing, waiting_in, is_ungreeted}
+use Rattle.p2p_driver.specs.Links.{closed, opened, hearing, allowing, unless_closing, is_ungreeted}
+use Rattle.p2p_driver.specs.Looked.{LookedView}
 use Rattle.p2p_discovery.specs.declared.discovery.Info.{Info}
 use Rattle.p2p_driver.specs.declared.actions.Action.{Action}
 use Rattle.p2p_driver.specs.declared.actions.Breach.{Breach}
@@ -221,7 +222,18 @@ phase_of false false = phase.Greeting
 abbrev pub is_closing : {C S : Type 0} → Outcome C S → Bool
 is_closing (Outcome.Breaks breach blocked) = true
 is_closing Outcome.IsEarly = true
+is_closing Outcome.LacksChannel = true
 is_closing outcome = false
+
+-- .. its peer counts as heard, and the link goes on: not by a frame that is only to come
+abbrev pub is_heard : {C S : Type 0} → Outcome C S → Bool
+is_heard (Outcome.Reads kind looked) = false
+is_heard outcome = not (is_closing outcome)
+
+-- the frame that may be handed in after it
+abbrev pub looked_by : {C S : Type 0} → Outcome C S → Option LookedView
+looked_by (Outcome.Reads kind looked) = Some looked
+looked_by outcome = None
 
 -- .. its peer has greeted
 abbrev pub is_greeted : {C S : Type 0} → Outcome C S → Bool
@@ -235,6 +247,8 @@ heard_as t owed (Outcome.Greets info question) held =
     opened t owed (asked_after t question held.asked) held
 heard_as t owed (Outcome.Breaks breach blocked) held = closed held
 heard_as t owed Outcome.IsEarly held = closed held
+heard_as t owed Outcome.LacksChannel held = closed held
+heard_as t owed (Outcome.Reads kind looked) held = allowing looked held
 heard_as t owed outcome held = hearing t owed (waiting_by outcome) held
 
 -- a question was due since the peer was heard at t: it was asked if memory was there
@@ -285,15 +299,21 @@ module _ {C S : Type 0} (s : Settings C S) where
   -- by it p was heard, and its link goes on: when, and what waits
   abbrev pub heard_by : C → Happening C S → Option (Duration × Option Waiting)
   heard_by p (Happening.Heard n q t owed cause outcome) =
-      if not (is_closing outcome) && same s q p then Some (t, waiting_by outcome) else None
+      if is_heard outcome && same s q p then Some (t, waiting_by outcome) else None
   heard_by p _ = None
 
   -- .. how many questions are owed after it
   abbrev pub owed_by : C → Happening C S → Option ℕ
   owed_by p (Happening.Heard n q t owed cause outcome) =
-      if not (is_closing outcome) && same s q p then Some owed else None
+      if is_heard outcome && same s q p then Some owed else None
   owed_by p (Happening.Asked n q t owed question) = if same s q p then Some owed else None
   owed_by p _ = None
+
+  -- by it the frame that may be handed in is this one, or none
+  abbrev pub looks_by : C → Happening C S → Option (Option LookedView)
+  looks_by p (Happening.Heard n q t owed cause outcome) =
+      if same s q p then Some (looked_by outcome) else None
+  looks_by p _ = None
 
   -- by it a question was due for p: when, and which one was asked, if memory was there
   abbrev pub tried_by : C → Happening C S → Option (Duration × Option Question)
@@ -316,6 +336,11 @@ module _ {C S : Type 0} (s : Settings C S) where
       Duration × Option Waiting
   last_heard since None = (since, None)
   last_heard since (Some found) = found.0
+
+  -- the frame that may be handed in
+  abbrev pub last_looked : Option (Option LookedView × List (Happening C S)) → Option LookedView
+  last_looked None = None
+  last_looked (Some found) = found.0
 
   -- when a question was due last since its link began, or else when that was
   abbrev pub last_tried : Duration →
@@ -342,8 +367,9 @@ module _ {C S : Type 0} (s : Settings C S) where
         since = t;
         heard = last.0;
         owed = unwrap_or (option_map (λ found. found.0) (last_with (owed_by p) since)) 0;
-        waiting = waiting_in phase last.1;
+        waiting = unless_closing phase last.1;
         asked = asked_in p t since;
+        looked = unless_closing phase (last_looked (last_with (looks_by p) since));
       }
 
   -- the link of p, by its number and when it began, and what was done since
@@ -409,6 +435,7 @@ module _ {C : Type 0} where
   answered_on n p (Outcome.Answers reply) link = sent n reply
   answered_on n p (Outcome.Breaks b blocked) link = shut p (why.Breach b) link ++ barred p b blocked
   answered_on n p Outcome.IsEarly link = shut p why.Future link
+  answered_on n p Outcome.LacksChannel link = shut p why.NoChannel link
   answered_on n p outcome link = []
 
   -- the link of p ended, if it has one

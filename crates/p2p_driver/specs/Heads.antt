@@ -56,7 +56,7 @@ gossip_kind info limits size =
 
 -- what the first frame of a peer is: no greeting is longer than its prefix and an info
 abbrev pub first_kind : ℕ → ℕ → Kind
-first_kind info size = if nat_lt (1 + info) size then kind.NoGreeting else kind.Gossip
+first_kind info size = if nat_lt (1 + info) size then kind.NoGreeting else kind.Greeting
 
 module _ (info : ℕ) (channels : List Channel) (limits : PayloadConfig) where
   -- what a frame of a peer that has greeted is, by the channel that its head spells, if it does

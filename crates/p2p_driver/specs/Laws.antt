@@ -5,7 +5,8 @@ use Rattle.std.specs.List.{Contains, list_any, count_by}
 use Rattle.std.specs.Duration.{as_nanos}
 use Rattle.p2p_tracker.specs.Calls.{Settings}
 use Rattle.p2p_tracker.specs.History.{same, last_with}
-use Rattle.p2p_driver.specs.Frames.{Outcome, begins_with}
+use Rattle.p2p_driver.specs.Frames.{Cause, Outcome, begins_with}
+use Rattle.p2p_driver.specs.Frames.Cause.{OfHead}
 use Rattle.p2p_driver.specs.Happenings.{Happening, opened_by, greets_by}
 use Rattle.p2p_driver.specs.declared.actions.Action.{Action}
 use Rattle.p2p_driver.specs.declared.actions.Action.TheVariants as action
@@ -34,6 +35,11 @@ abbrev pub bare : {C S : Type 0} → Outcome C S → Outcome C S
 bare (Outcome.Greets info question) = Outcome.Greets info None
 bare (Outcome.Breaks breach blocked) = Outcome.Breaks breach None
 bare outcome = outcome
+
+-- the first bytes of a frame are there, and its length
+abbrev pub is_head : Cause → Bool
+is_head (OfHead longest head size) = true
+is_head cause = false
 
 -- a set is asked for, if a question is
 abbrev pub is_for_set : Option Question → Bool
@@ -92,6 +98,8 @@ module _ {C S : Type 0} (s : Settings C S) where
       if same s q p then Some (why.Breach breach) else None
   cut_by p (Happening.Heard n q t owed cause Outcome.IsEarly) =
       if same s q p then Some why.Future else None
+  cut_by p (Happening.Heard n q t owed cause Outcome.LacksChannel) =
+      if same s q p then Some why.NoChannel else None
   cut_by p (Happening.Barred q t taken) = if same s q p then Some why.Blocked else None
   cut_by p (Happening.Parted q t) = if same s q p then Some why.Application else None
   cut_by p e = None

@@ -7,12 +7,15 @@ pub mod Arrivals
 pub mod Digests
 pub mod Answers
 pub mod Meters
+pub mod Reads
+pub mod Looked
 pub mod Heads
 pub mod Actions
 pub mod Links
 pub mod Questions
 pub mod Frames
 pub mod Happenings
+pub mod Reading
 pub mod Steps
 pub mod Hearing
 pub mod Drivers

@@ -11,6 +11,7 @@ use Rattle.std.specs.Option.{IsSomeAnd}
 use Rattle.std.specs.declared.cmp.Ordering.{Ordering}
 use Rattle.std.specs.declared.time.Duration.{Duration}
 use Rattle.p2p_driver.specs.Arrivals.{lesser_of}
+use Rattle.p2p_driver.specs.Looked.{LookedView, is_frame_of}
 use Rattle.p2p_driver.specs.declared.links.Asked.{Asked}
 use Rattle.p2p_driver.specs.declared.links.Held.{Held}
 use Rattle.p2p_driver.specs.declared.links.Phase.{Phase}
@@ -45,6 +46,7 @@ link_with number since = record {
   owed = 0;
   waiting = None;
   asked = record { at = since; index = None; rounds = 0 };
+  looked = None;
 }
 
 -- the phase once the peer has greeted
@@ -53,18 +55,19 @@ greeted Greeting = Open
 greeted Open = Open
 greeted Closing = Closing
 
--- what waits on a link: nothing, once it was closed
-abbrev pub waiting_in : Phase → Option Waiting → Option Waiting
-waiting_in Closing waiting = None
-waiting_in phase waiting = waiting
+-- what is kept of a link for later: nothing, once it was closed
+abbrev pub unless_closing : {A : Type 0} → Phase → Option A → Option A
+unless_closing Closing kept = None
+unless_closing phase kept = kept
 
 -- what is kept of a link once its peer was heard: when, how many questions are owed then, and what
--- waits
+-- waits. No frame may be handed in then, before it is asked for
 abbrev pub hearing : Duration → ℕ → Option Waiting → Held → Held
 hearing t owed waiting h = record h {
   heard = t;
   owed = owed;
-  waiting = waiting_in h.phase waiting;
+  waiting = unless_closing h.phase waiting;
+  looked = None;
 }
 
 -- .. and has greeted: what is kept of its questions then
@@ -75,7 +78,12 @@ opened t owed asked h = record h {
   owed = owed;
   waiting = None;
   asked = asked;
+  looked = None;
 }
+
+-- .. once this frame may be handed in
+abbrev pub allowing : LookedView → Held → Held
+allowing looked h = record h { looked = unless_closing h.phase (Some looked) }
 
 -- .. once its peer was asked: how many questions are owed then, and what is kept of them
 abbrev pub asking : ℕ → Asked → Held → Held
@@ -83,7 +91,7 @@ asking owed asked h = record h { owed = owed; asked = asked }
 
 -- .. and once it was closed
 abbrev pub closed : Held → Held
-closed h = record h { phase = Closing; waiting = None }
+closed h = record h { phase = Closing; waiting = None; looked = None }
 
 -- the peer hasn't greeted yet
 abbrev pub is_greeting : Phase → Bool
@@ -100,6 +108,18 @@ abbrev pub is_timed : Phase → Bool
 is_timed Greeting = true
 is_timed Open = true
 is_timed Closing = false
+
+-- the frame is the one that may be handed in on a link
+abbrev pub is_expected_by : Option LookedView → List ℕ → Bool
+is_expected_by None frame = false
+is_expected_by (Some looked) frame = is_frame_of looked frame
+
+abbrev pub is_expected : List ℕ → Held → Bool
+is_expected frame h = is_expected_by h.looked frame
+
+-- .. the link isn't closed, and it isn't
+abbrev pub is_unexpected : List ℕ → Held → Bool
+is_unexpected frame h = is_timed h.phase && not (is_expected frame h)
 
 -- 1 if there is a link whose peer hasn't greeted, else 0
 abbrev pub one_if_greeting : Option Held → ℕ

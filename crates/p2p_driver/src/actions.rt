@@ -65,6 +65,8 @@ pub enum Why {
     Blocked,
     /// The peer's info is of the future.
     Future,
+    /// The peer sends a message on a channel that isn't in the settings.
+    NoChannel,
     /// The application wants it closed.
     Application,
     /// The peer broke a rule.
@@ -74,12 +76,14 @@ pub enum Why {
 /// Which rule a peer broke.
 #[derive(Clone, Copy, Debug, PartialEq, Eq)]
 pub enum Breach {
-    /// Its first message was no greeting.
+    /// Its first frame is no greeting, or longer than one may be.
     NoGreeting,
     /// It greeted with the info of another key.
     OtherGreeting,
     /// It greeted a second time.
     SecondGreeting,
+    /// Its frame is longer than what it is may be.
+    FrameLength,
     /// Its bytes are no message.
     Codec(CodecError),
     /// Its message has bits that fit no set.

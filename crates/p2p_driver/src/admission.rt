@@ -2,6 +2,22 @@
 
 use crate::actions::Why;
 use std::ops::Range;
+use std::time::Duration;
+
+/// Whether a frame may be read, of which the first bytes are there.
+#[derive(Clone, Copy, Debug, PartialEq, Eq)]
+pub enum Read {
+    /// It is to be read now, and handed in then.
+    Now,
+    /// It isn't to be read before this steady time: it is to be asked for again then.
+    After(Duration),
+    /// Another frame of the link waits for verdicts: it is to be asked for again after those.
+    Judging,
+    /// The link is closing, or is closed by this.
+    Closing,
+    /// There is no such link.
+    Unknown,
+}
 
 /// What becomes of a frame that came.
 #[derive(Clone, Debug, PartialEq, Eq, Drop)]
@@ -10,7 +26,9 @@ pub enum Admission {
     Unknown,
     /// The link is closing. Nothing has changed.
     Closing,
-    /// Another frame of the link waits for verdicts. Nothing has changed.
+    /// It isn't the frame for which `length` said `Now` last on this link: it has another length,
+    /// other first bytes, or none was asked for; or another frame waits for verdicts. Nothing has
+    /// changed.
     Unasked,
     /// It is a list of infos that nobody asked for. It isn't read.
     Ignored,

@@ -2,7 +2,7 @@
 //! and end. Room for what has to be said when a link ends is promised when it begins.
 
 ghost use Rattle.std.specs.Prelude.{◌≡◌, ◌≤◌, ◌+◌, ◌++◌, [], ◌∷◌, None, Some, OnOk, OnErr, length};
-ghost use Rattle.std.specs.Prelude.{if◌then◌else◌, is_some, option_map, true};
+ghost use Rattle.std.specs.Prelude.{if◌then◌else◌, is_some, option_map, true, ℕ, ◌==◌};
 ghost use Rattle.std.specs.BTreeMap.{is_at};
 ghost use Rattle.std.specs.Duration.{as_nanos};
 ghost use Rattle.p2p_discovery.specs.Ordered.{has_key};
@@ -14,13 +14,15 @@ ghost use Rattle.p2p_driver.specs.Steps.{comes_by, is_claim_of, no_proof_of};
 ghost use Rattle.p2p_driver.specs.Happenings.{shut, shut_all, shut_in, closed_at};
 ghost use Rattle.p2p_driver.specs.Happenings.{parted, downed, sent, why_late};
 ghost use Rattle.p2p_driver.specs.Links.{link_of, link_with, need_of, need_at, needs, closed};
+ghost use Rattle.p2p_driver.specs.Reads.{reads_of, unread};
 ghost use Rattle.p2p_driver.specs.Steps.{IsBusy, Makes, MayListen};
 ghost use Rattle.p2p_driver.specs.declared.links.Held.{Held};
 
 use crate::actions::{Action, Actions, Event, Why};
 use crate::link::Link;
 use crate::links::{Links, Phase};
-use crate::pace::Pace;
+use crate::pace::{Channel, Pace};
+use crate::reads::Reads;
 use crate::steps;
 use bytes::Bytes;
 use p2p_directory::node::Node;
@@ -28,21 +30,27 @@ use p2p_discovery::codec::PublicKey;
 use std::alloc::AllocError;
 use std::time::Duration;
 
-// Reserves a peer that may come, keeps its link, and sends the greeting on it.
+// Reserves a peer that may come, keeps its link, of which nothing was read, and sends the greeting
+// on it.
 pub(crate) fn begin<C: PublicKey>(
     node: &mut Node<C>,
+    reads: &mut Reads,
     links: &mut Links<C>,
     actions: &mut Actions<C>,
     greeting: &Bytes,
     peer: C,
     number: u64,
+    channels: &[Channel],
     now: Duration,
     draw: Duration,
 ) -> Result<(), AllocError>
+    requires unread { reads_of reads.old number ≡ None }
     requires unlinked { link_of C.cmp links.old peer ≡ None }
     requires unused { (q : C) (held : Held) → link_of C.cmp links.old q ≡ Some held →
         held.number ≡ number → ⊥ }
     requires may { MayListen C.cmp peer (as_nanos now) node.old }
+    ensures reads { OnOk result ((n : ℕ) → reads_of reads.new n ≡
+        (if n == number then Some (unread (length channels.now)) else reads_of reads.old n)) }
     ensures made { OnOk result (Makes C.cmp
         (Listen peer (as_nanos now) (as_nanos draw) ∷ []) node.old node.new) }
     ensures links { OnOk result ((q : C) → link_of C.cmp links.new q ≡
@@ -52,17 +60,23 @@ pub(crate) fn begin<C: PublicKey>(
         ≡ actions.old.items ++ sent number greeting.now) }
     ensures needs { OnOk result (needs links.new ≡ needs links.old + 1) }
     ensures room { actions.new.room ≡ actions.old.room }
-    ensures err { OnErr result (IsSame node.old node.new × (links.new ≡ links.old)
-        × (actions.new.items ≡ actions.old.items)) }
+    ensures err { OnErr result (IsSame node.old node.new × (reads.new ≡ reads.old)
+        × (links.new ≡ links.old) × (actions.new.items ≡ actions.old.items)) }
 {
     let frame = greeting.clone()?;
-    links.put(peer, number, now)?;
+    reads.begin(number, channels.len())?;
+    if let Err(failed) = links.put(peer, number, now) {
+        reads.end(number);
+        return Err(failed);
+    }
     if actions.reserve(1).is_err() {
         let _held = links.remove(&peer);
+        reads.end(number);
         return Err(AllocError);
     }
     if !steps::listen(node, &peer, now, draw) {
         let _held = links.remove(&peer);
+        reads.end(number);
         actions.give_back(1);
         return Err(AllocError);
     }

@@ -19,6 +19,7 @@ use crate::link::{Link, Now};
 use crate::links::Links;
 use crate::origin::Origin;
 use crate::pace::Pace;
+use crate::reads::Reads;
 use crate::{connections, streams};
 use bytes::Bytes;
 use p2p_directory::node::wire::Frames;
@@ -33,6 +34,7 @@ use std::time::Duration;
 mod application;
 mod frames;
 mod queries;
+mod reading;
 mod sets;
 mod timers;
 
@@ -56,6 +58,7 @@ pub struct Driver<C: PublicKey> {
     next: u64,
     arrivals: Arrivals<C>,
     answers: Answers,
+    reads: Reads,
     links: Links<C>,
     actions: Actions<C>,
 }
@@ -67,11 +70,11 @@ impl<C: PublicKey> Model for Driver<C> {
     ghost Value = { DriverView C C.Signature };
 
     ghost view = { λ d. seen d.node d.pace d.greeting (as_nanos d.cooldown) (as_nanos d.latest)
-        d.next d.arrivals d.answers d.links d.actions.items };
+        d.next d.arrivals d.answers d.reads d.links d.actions.items };
 
     ghost invariant = { λ d. DriverStands C.cmp (wire_with C.verifies C.spelled C.Signature.spelled
         C.SIZE C.value C.Signature.SIZE C.Signature.value) (seen d.node d.pace d.greeting
-        (as_nanos d.cooldown) (as_nanos d.latest) d.next d.arrivals d.answers d.links
+        (as_nanos d.cooldown) (as_nanos d.latest) d.next d.arrivals d.answers d.reads d.links
         d.actions.items)
         × HasRoom d.arrivals d.answers d.links d.actions };
 }
@@ -108,6 +111,7 @@ impl<C: PublicKey> Driver<C> {
             next: 1,
             arrivals: Arrivals::new(alloc),
             answers: Answers::new(alloc),
+            reads: Reads::new(alloc),
             links: Links::new(alloc),
             actions: Actions::new(alloc),
         })
@@ -245,11 +249,13 @@ impl<C: PublicKey> Driver<C> {
             None => {
                 if let Err(failed) = connections::begin(
                     &mut self.node,
+                    &mut self.reads,
                     &mut self.links,
                     &mut self.actions,
                     &self.greeting,
                     peer,
                     link.0,
+                    self.pace.channels.as_slice(),
                     now,
                     jitter(self.cooldown, word),
                 ) {
@@ -283,6 +289,7 @@ impl<C: PublicKey> Driver<C> {
             return false;
         };
         connections::end(&mut self.node, &mut self.links, &mut self.actions, &peer);
+        self.reads.end(link.0);
         self.latest = later(self.latest, now.steady);
         true
     }
@@ -313,6 +320,7 @@ impl<C: PublicKey> Driver<C> {
             next: _,
             arrivals: _,
             answers: _,
+            reads: _,
             links: _,
             actions: _,
         } = self;

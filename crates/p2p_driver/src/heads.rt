@@ -12,7 +12,7 @@ ghost use Rattle.p2p_discovery.specs.Payload.{IsPayload, IsAdmitted, prefix_of, 
 ghost use Rattle.p2p_discovery.specs.Payload.{gossip_size};
 ghost use Rattle.p2p_discovery.specs.Reading.{IsBytes};
 ghost use Rattle.p2p_discovery.specs.Varint.{groups_at, last_group};
-ghost use Rattle.p2p_driver.specs.declared.heads.Kind.TheVariants.{Gossip, Message};
+ghost use Rattle.p2p_driver.specs.declared.heads.Kind.TheVariants.{Greeting, Gossip, Message};
 ghost use Rattle.p2p_driver.specs.declared.pace.Channel.{Channel};
 ghost use Rattle.p2p_driver.specs.Heads.{value_of, channel_of, BeginsOn, is_numbered};
 ghost use Rattle.p2p_driver.specs.Heads.{longest_frame, message_kind, gossip_kind, first_kind};
@@ -32,6 +32,8 @@ pub enum Kind {
     TooLong,
     /// It is a message on a channel that isn't in the settings.
     NoChannel,
+    /// It is the first of its peer, and no longer than a greeting may be.
+    Greeting,
     /// It is gossip, or spells no prefix or no channel.
     Gossip,
     /// It is a message on the channel at this position of the settings.
@@ -41,7 +43,8 @@ pub enum Kind {
 /// What a frame of so many bytes is, by its first bytes, of which 11 are enough: a prefix and a
 /// channel. `greeted` says whether its peer has greeted. It doesn't allocate.
 ///
-/// - Before the greeting it is `NoGreeting` if it is longer than a greeting may be, else `Gossip`.
+/// - Before the greeting it is `NoGreeting` if it is longer than a greeting may be, else
+///   `Greeting`.
 /// - Then, if its head spells a channel, it is `NoChannel` if no channel of the settings has that
 ///   number, `TooLong` above the length of the longest message's frame on it, else `Message`.
 /// - Whatever else it is, it is `TooLong` above the length of the longest frame of gossip under
@@ -78,7 +81,7 @@ fn first<C: PublicKey>(length: usize) -> Kind
     if longest < length {
         Kind::NoGreeting
     } else {
-        Kind::Gossip
+        Kind::Greeting
     }
 }
 
@@ -189,7 +192,7 @@ pub fn right_frames_are_read<C: PublicKey>()
         (info : Info C C.Signature) → IsInfo info →
         let frame = payload_spelling C.spelled C.Signature.spelled (Payload.Greeting info) in
         kind_of (261 + 10 + C.SIZE + C.Signature.SIZE) channels limits false frame (count frame)
-        ≡ Gossip }
+        ≡ Greeting }
     ensures gossip { (channels : List Channel) (limits : PayloadConfig)
         (p : Payload C C.Signature) → IsPayload p →
         IsAdmitted C.IsValue C.Signature.IsValue limits p → 0 < prefix_of p →

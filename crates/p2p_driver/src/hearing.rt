@@ -10,7 +10,7 @@ ghost use Rattle.p2p_discovery.specs.declared.discovery.Info.{Info};
 ghost use Rattle.p2p_tracker.specs.Calls.Call.{Connect};
 ghost use Rattle.p2p_driver.specs.Links.{link_of, needs, asking, is_to_ask, to_ask};
 ghost use Rattle.p2p_driver.specs.Frames.{owed_after};
-ghost use Rattle.p2p_driver.specs.Frames.Outcome.{Breaks, Greets, IsEarly};
+ghost use Rattle.p2p_driver.specs.Frames.Outcome.{Breaks, Greets, IsEarly, LacksChannel};
 ghost use Rattle.p2p_driver.specs.Happenings.{asking_on};
 ghost use Rattle.p2p_driver.specs.Hearing.{Follows};
 ghost use Rattle.p2p_driver.specs.Questions.{asked_after, owed_with, IsNextQuestion};
@@ -71,6 +71,21 @@ pub(crate) fn shut_early<C: PublicKey>(
     ensures room { needs links.new + actions.old.room ≡ actions.new.room + needs links.old }
 {
     connections::shut(links, actions, peer, Why::Future);
+}
+
+// The peer sends a message on a channel that isn't in the settings: its link is closed.
+pub(crate) fn shut_unknown<C: PublicKey>(
+    links: &mut Links<C>,
+    actions: &mut Actions<C>,
+    peer: &C,
+    now: Duration,
+)
+    requires { needs links.old ≤ actions.old.room }
+    ensures follows { (n owed : ℕ) → Follows {S = C.Signature} C.cmp n peer.now now owed
+        LacksChannel links.old links.new actions.old.items actions.new.items }
+    ensures room { needs links.new + actions.old.room ≡ actions.new.room + needs links.old }
+{
+    connections::shut(links, actions, peer, Why::NoChannel);
 }
 
 // The peer of a link has greeted, and its info is applied: it is connected, told to be up, and

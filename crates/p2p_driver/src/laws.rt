@@ -2,7 +2,7 @@
 
 ghost use Rattle.std.specs.Prelude.{ℕ, ◌≡◌, ◌≤◌, ◌&&◌, not, if◌then◌else◌, true, List, ◌∷◌, ◌++◌};
 ghost use Rattle.std.specs.Prelude.{◌<◌, ◌+◌, ◌-◌, ◌*◌, false, length, map, Some, None, is_some};
-ghost use Rattle.std.specs.Prelude.{option_map};
+ghost use Rattle.std.specs.Prelude.{Option, option_map};
 ghost use Rattle.std.specs.Duration.{as_nanos};
 ghost use Rattle.std.specs.Int.NonZero.{non_zero_u32_get};
 ghost use Rattle.std.specs.List.{Contains, count_by};
@@ -25,6 +25,8 @@ ghost use Rattle.p2p_driver.specs.Frames.{Cause, Outcome};
 ghost use Rattle.p2p_driver.specs.Links.{link_of, closed};
 ghost use Rattle.p2p_driver.specs.Laws.{Begins, closes, is_served, is_set, HasGreeted};
 ghost use Rattle.p2p_driver.specs.Laws.{has_greeted, cut_by, Blames, bare, asked_on, lists_on};
+ghost use Rattle.p2p_driver.specs.Laws.{is_head};
+ghost use Rattle.p2p_driver.specs.Reading.{rate_at, frames_read};
 ghost use Rattle.p2p_driver.specs.Drivers.{DriverView, Base, DriverStandsAt, AreRight, link};
 ghost use Rattle.p2p_driver.specs.Drivers.{IsRight, may_come, no_proof};
 ghost use Rattle.p2p_driver.specs.declared.arrivals.Room.TheVariants as Room;
@@ -34,6 +36,7 @@ ghost use Rattle.p2p_driver.specs.Rates.{count_in};
 use crate::actions::Why;
 use crate::links::{Held, Phase, Waiting};
 use crate::origin::Origin;
+use crate::rate::Rate;
 use p2p_directory::node::wire::Frames;
 use p2p_discovery::codec::PublicKey;
 use std::time::Duration;
@@ -189,6 +192,18 @@ pub fn claims_in_time<C: PublicKey>()
         count_in from size (times_of o (answered_in h)) * refill ≤ burst * refill + size }
 {}
 
+/// By a law of drivers, no more frames of a link are read in a window of time than a burst, and one
+/// more for each refill of the window's length: of gossip at the rate of the settings, and of the
+/// messages of a channel at its rate, whatever a driver did that it might do. Frames count from
+/// when the link began.
+pub fn frames_in_time<C: PublicKey>()
+    ensures { (b : Base C C.Signature) (h : List (Happening C C.Signature)) → AreRight b h →
+        (n : ℕ) (place : Option ℕ) (rate : Rate) → rate_at b.pace place ≡ Some rate →
+        let burst = non_zero_u32_get rate.burst in let refill = as_nanos rate.refill in
+        (from size : ℕ) →
+        count_in from size (frames_read n place h) * refill ≤ burst * refill + size }
+{}
+
 /// By a law of drivers, a peer is served only once it has greeted, whatever a driver did that it
 /// might do. It is served if its infos are taken, its question is answered, or its message is
 /// delivered.
@@ -221,6 +236,7 @@ pub fn greeting_first<C: PublicKey>()
 ///   rule on its link then.
 /// - Of a link, what was done before and what came decide what comes of it, but for whether memory
 ///   is there to ask or to block. Frames are those of nodes.
+/// - Of the first bytes of a frame these, its length and the time decide.
 pub fn blame<C: PublicKey>()
     ensures blocks { (h : List (Happening C C.Signature)) (p : C) (now : ℕ) →
         Contains (calls_of h) (Block p now) →
@@ -228,7 +244,13 @@ pub fn blame<C: PublicKey>()
     ensures one_cause { let wire = ⟦<C as Frames>⟧.wire in (b : Base C C.Signature) →
         b.wire ≡ wire → (h : List (Happening C C.Signature)) (n m : ℕ) (p : C)
         (t u : Duration) (owed other : ℕ) (cause : Cause) (x y : Outcome C C.Signature) →
+        is_head cause ≡ false →
         IsRight b h (Heard n p t owed cause x) → IsRight b h (Heard m p u other cause y) →
+        bare x ≡ bare y }
+    ensures one_head { (b : Base C C.Signature) (h : List (Happening C C.Signature)) (n m : ℕ)
+        (p : C) (t : Duration) (owed other : ℕ) (cause : Cause) (x y : Outcome C C.Signature) →
+        is_head cause ≡ true →
+        IsRight b h (Heard n p t owed cause x) → IsRight b h (Heard m p t other cause y) →
         bare x ≡ bare y }
 {}
 

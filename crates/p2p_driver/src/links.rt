@@ -9,12 +9,15 @@ ghost use Rattle.std.specs.Map.{keys_of, values_of, remove_entry, set_value};
 ghost use Rattle.std.specs.Option.{IsSomeAnd};
 ghost use Rattle.std.specs.BTreeMap.{is_at, get, insert_entry};
 ghost use Rattle.p2p_driver.specs.Links.{link_of, need_at, needs, link_with, one_if_greeting};
-ghost use Rattle.p2p_driver.specs.Links.{opened, hearing, asking, closed, is_ungreeted, is_timed};
+ghost use Rattle.p2p_driver.specs.Links.{opened, hearing, asking, allowing, closed};
+ghost use Rattle.p2p_driver.specs.Links.{is_ungreeted, is_timed};
 ghost use Rattle.p2p_driver.specs.Links.{is_open, ask_at, is_to_ask, to_ask, next_of};
+ghost use Rattle.p2p_driver.specs.Links.{unless_closing, is_unexpected};
 ghost use Rattle.p2p_driver.specs.Links.{due, is_late, sooner_of, least_due};
 ghost use Rattle.p2p_driver.specs.Links.{AreNumbered, AreAlike, IsLeastDue};
 ghost use Rattle.p2p_driver.specs.declared.links.Held.{Held};
 
+use crate::looked::Looked;
 use bytes::Bytes;
 use std::alloc::{AllocError, Global};
 use std::collections::BTreeMap;
@@ -74,6 +77,8 @@ pub struct Held {
     pub waiting: Option<Waiting>,
     /// The questions that its peer is asked.
     pub asked: Asked,
+    /// The frame that may be handed in next, if one may.
+    pub looked: Option<Looked>,
 }
 
 impl Held {
@@ -93,6 +98,7 @@ impl Held {
             owed,
             waiting: None,
             asked,
+            looked: None,
         }
     }
 
@@ -112,6 +118,17 @@ impl Held {
             owed,
             waiting,
             asked: self.asked,
+            looked: None,
+        }
+    }
+
+    // What is kept of the link once this frame may be handed in.
+    fn allowing(&self, looked: Looked) -> Option<Looked>
+        ensures { result ≡ unless_closing self.now.phase (Some looked) }
+    {
+        match self.phase {
+            Phase::Closing => None,
+            _ => Some(looked),
         }
     }
 
@@ -127,6 +144,20 @@ impl Held {
             owed: self.owed,
             waiting: None,
             asked: self.asked,
+            looked: None,
+        }
+    }
+
+    // Whether the link isn't closed, and the frame isn't the one that may be handed in.
+    pub(crate) fn is_unexpected(&self, frame: &[u8]) -> bool
+        ensures { result ≡ is_unexpected frame.now self.now }
+    {
+        if !self.is_timed() {
+            return false;
+        }
+        match &self.looked {
+            Some(looked) => !looked.is_of(frame),
+            None => true,
         }
     }
 
@@ -156,7 +187,7 @@ impl Held {
     }
 
     // Whether the peer has greeted, and its link isn't closed.
-    fn is_open(&self) -> bool
+    pub(crate) fn is_open(&self) -> bool
         ensures { result ≡ is_open self.now.phase }
     {
         self.phase == Phase::Open
@@ -325,6 +356,7 @@ impl<C: Ord + Copy> Links<C> {
                 index: None,
                 rounds: 0,
             },
+            looked: None,
         };
         if let Err(failed) = insert(&mut self.of_peers, peer, held) {
             let _peer = self.peers.remove(&number);
@@ -390,6 +422,22 @@ impl<C: Ord + Copy> Links<C> {
             let heard = held.hearing(now, owed, waiting);
             write(&mut self.of_peers, peer, heard);
         }
+    }
+
+    /// Notes that this frame may be handed in on the peer's link, if it has one that isn't closed.
+    /// All other links stay. It doesn't allocate.
+    ///
+    /// # Cost
+    ///
+    /// Two searches among the links.
+    pub fn look(&mut self, peer: &C, looked: Looked)
+        ensures links { (q : C) → link_of C.cmp self.new q ≡ (if is_at (C.cmp peer.now) q
+            then option_map (allowing looked) (link_of C.cmp self.old q)
+            else link_of C.cmp self.old q) }
+        ensures count { length self.new ≡ length self.old }
+        ensures needs { needs self.new ≡ needs self.old }
+    {
+        allow(&mut self.of_peers, peer, looked);
     }
 
     /// Notes that the peer's link is closed, if it has one. All other links stay. It doesn't
@@ -542,6 +590,19 @@ fn note<C: Ord>(of_peers: &mut BTreeMap<C, Held>, peer: &C, owed: usize, asked: 
     if let Some(kept) = of_peers.get_mut(peer) {
         kept.owed = owed;
         kept.asked = asked;
+    }
+}
+
+// Notes of the peer's link, if it is kept, that this frame may be handed in, unless it is closed.
+fn allow<C: Ord>(of_peers: &mut BTreeMap<C, Held>, peer: &C, looked: Looked)
+    ensures noted { (held : Held) → link_of C.cmp of_peers.old.entries peer.now ≡ Some held →
+        of_peers.new.entries
+        ≡ set_value (is_at (C.cmp peer.now)) of_peers.old.entries (allowing looked held) }
+    ensures none { link_of C.cmp of_peers.old.entries peer.now ≡ None →
+        of_peers.new.entries ≡ of_peers.old.entries }
+{
+    if let Some(kept) = of_peers.get_mut(peer) {
+        kept.looked = kept.allowing(looked);
     }
 }
 

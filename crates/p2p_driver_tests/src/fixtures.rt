@@ -7,11 +7,12 @@ use p2p_directory::run::Command;
 use p2p_discovery::codec::{TestKey, Write};
 use p2p_discovery::discovery::{Info, Infos, Payload};
 use p2p_driver::actions::{Action, Event, Why};
-use p2p_driver::admission::{Admission, Heard, Misjudged};
+use p2p_driver::admission::{Admission, Heard, Misjudged, Read};
 use p2p_driver::driver::{Driver, Tracked};
 use p2p_driver::link::{Link, Now};
-use p2p_driver::pace::Pace;
+use p2p_driver::pace::{Channel, Pace};
 use std::alloc::{AllocError, Global};
+use std::num::NonZeroU32;
 use std::test::Fail;
 use std::time::Duration;
 
@@ -36,6 +37,26 @@ pub enum Said {
 /// greet.
 pub fn pace(alloc: Global) -> Pace {
     Pace::recommended(alloc, 4, Duration::from_secs(60)).pace
+}
+
+/// A channel, on which a message has at most so many bytes. So many of a link are read at once, and
+/// one more in so many seconds.
+pub fn channel(number: u64, longest: u32, burst: u32, seconds: u64) -> Channel {
+    Channel {
+        number,
+        longest,
+        burst: NonZeroU32::MIN.saturating_add(burst.saturating_sub(1)),
+        refill: Duration::from_secs(seconds),
+    }
+}
+
+/// Those settings with two channels: 3, with messages of at most 32 bytes, of which two are read at
+/// once, and one more in a second; and 300, of at most 5 bytes, three at once, and one more in 2 s.
+pub fn with_channels(alloc: Global) -> Result<Pace, AllocError> {
+    let mut pace = pace(alloc);
+    pace.channels.push(channel(3, 32, 2, 1))?;
+    pace.channels.push(channel(300, 5, 3, 2))?;
+    Ok(pace)
 }
 
 /// What is found by a driver with these settings, for the tests of drivers. The driver ends here
@@ -183,6 +204,32 @@ pub fn list(alloc: Global, words: &[&'static str]) -> Result<Bytes, Fail> {
     Ok(Payload::Peers(Infos::from_vec(infos)).encode(alloc)?)
 }
 
+/// Whether a frame of these bytes is read now by a tested driver, which is told the first 11.
+pub fn length(driver: &mut Driver<TestKey>, link: Link, bytes: &[u8], now: Now) -> Read {
+    driver.length(link, &bytes[..bytes.len().min(11)], bytes.len(), now)
+}
+
+/// How many frames of these bytes are read at once by a tested driver, at most 20, and what it says
+/// of the next one.
+pub fn reads(driver: &mut Driver<TestKey>, link: Link, bytes: &[u8], now: Now) -> (u32, Read) {
+    let mut count = 0u32;
+    for _ in 0..20u32 {
+        let read = length(driver, link, bytes, now);
+        if read != Read::Now {
+            return (count, read);
+        }
+        count = count.saturating_add(1);
+    }
+    (count, length(driver, link, bytes, now))
+}
+
+/// What becomes of a frame that comes to a tested driver, which is asked just before whether it is
+/// read. It is handed in whatever the answer is.
+pub fn admitted(driver: &mut Driver<TestKey>, link: Link, frame: &Bytes, now: Now) -> Admission {
+    let _read = length(driver, link, frame.as_slice(), now);
+    driver.admit(link, frame, now)
+}
+
 /// What becomes of a frame of these bytes that comes on link 1 of a tested driver.
 pub fn admit(
     alloc: Global,
@@ -190,7 +237,7 @@ pub fn admit(
     bytes: &[u8],
     millis: u64,
 ) -> Result<Admission, AllocError> {
-    Ok(driver.admit(Link(1), &frame(alloc, bytes)?, at(millis)))
+    Ok(admitted(driver, Link(1), &frame(alloc, bytes)?, at(millis)))
 }
 
 /// What a tested driver answers to the greeting with this info on link 1, and what comes of it at
@@ -201,7 +248,7 @@ pub fn greet(
     word: &'static str,
     millis: u64,
 ) -> Result<(Admission, Result<Heard, Misjudged>), Fail> {
-    let admission = driver.admit(Link(1), &greeting(alloc, word)?, at(millis));
+    let admission = admitted(driver, Link(1), &greeting(alloc, word)?, at(millis));
     let heard = driver.judged(Link(1), &[true], at(millis));
     Ok((admission, heard))
 }

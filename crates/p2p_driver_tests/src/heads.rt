@@ -43,10 +43,10 @@ const INFO: usize = 287;
 fn the_first_frame_is_no_longer_than_a_greeting(rt: HostRuntime) -> Result<(), Fail> {
     let pace = pace(rt.alloc())?;
     let first = |head: &[u8], length| kind_of::<TestKey>(&pace, &limits(8, 9), false, head, length);
-    assert!(rt; first(&[1, 0], 1 + INFO) == Kind::Gossip);
+    assert!(rt; first(&[1, 0], 1 + INFO) == Kind::Greeting);
     assert!(rt; first(&[1, 0], 2 + INFO) == Kind::NoGreeting);
-    assert!(rt; first(&[0, 7], 3) == Kind::Gossip);
-    assert!(rt; first(&[0, 7], 4) == Kind::Gossip);
+    assert!(rt; first(&[0, 7], 3) == Kind::Greeting);
+    assert!(rt; first(&[0, 7], 4) == Kind::Greeting);
     assert!(rt; first(&[0, 8], usize::MAX) == Kind::NoGreeting);
     Ok(())
 }

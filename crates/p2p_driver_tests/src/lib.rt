@@ -17,6 +17,8 @@ mod heads;
 #[cfg(test)]
 mod links;
 #[cfg(test)]
+mod looked;
+#[cfg(test)]
 mod meters;
 #[cfg(test)]
 mod paces;

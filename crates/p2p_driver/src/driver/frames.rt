@@ -18,7 +18,9 @@ use p2p_discovery::codec::PublicKey;
 use std::time::Duration;
 
 impl<C: PublicKey> Driver<C> {
-    /// A frame came on a link. It returns what becomes of it.
+    /// A frame came on a link: that for which [`Driver::length`] said `Now` last on this link, of
+    /// that length and those first bytes. It returns what becomes of it. Each other frame is
+    /// `Unasked`, and nothing changes.
     ///
     /// The first frame of a peer has to be a greeting with the info of its own key. It waits for a
     /// verdict on its signature, which [`Driver::judged`] brings. After that a message is to be
@@ -47,6 +49,9 @@ impl<C: PublicKey> Driver<C> {
             return Admission::Unknown;
         };
         if held.waiting.is_some() {
+            return Admission::Unasked;
+        }
+        if held.is_unexpected(frame.as_slice()) {
             return Admission::Unasked;
         }
         let owed = held.owed;

@@ -1,8 +1,8 @@
 //! Rules that a peer breaks: it is blocked, and its link is closed.
 
 use crate::fixtures::{
-    SETTINGS, Said, admit, at, claim, driven, greet, greeting, next_two, open, pace, prove, tested,
-    track,
+    SETTINGS, Said, admit, admitted, at, claim, driven, greet, greeting, next_two, open, pace,
+    prove, tested, track, with_channels,
 };
 use p2p_directory::record::Status;
 use p2p_discovery::codec::{CodecError, TestKey, What};
@@ -89,7 +89,8 @@ fn after(alloc: Global, driver: &mut Driver<TestKey>, bytes: &[u8]) -> Result<Br
 fn a_peer_that_has_greeted_breaks_rules(rt: HostRuntime) -> Result<(), Fail> {
     let alloc = rt.alloc();
     for (bytes, breach) in NEXT {
-        let found = tested(alloc, pace(alloc), |driver| { after(alloc, driver, bytes) })??;
+        let pace = with_channels(alloc)?;
+        let found = tested(alloc, pace, |driver| { after(alloc, driver, bytes) })??;
         let (came, said, then, until) = found;
         let why = Why::Breach(breach);
         assert_eq!(rt; came, Admission::Heard(Heard::Closing(why)));
@@ -142,7 +143,7 @@ type Second = ([Admission; 2], [Option<Status>; 2], [bool; 2]);
 
 fn second(alloc: Global, driver: &mut Driver<TestKey>, word: &'static str) -> Result<Second, Fail> {
     open(alloc, driver, "track 0 1,2")?;
-    let again = driver.admit(Link(1), &greeting(alloc, word)?, at(3_000));
+    let again = admitted(driver, Link(1), &greeting(alloc, word)?, at(3_000));
     let closing = admit(alloc, driver, &[0, 3, 0], 3_001)?;
     let before = driver.node().status(&TestKey(1));
     driver.ended(Link(1), at(3_002));

@@ -1,8 +1,8 @@
 //! Links of peers that are silent, and the two clocks.
 
 use crate::fixtures::{
-    SETTINGS, Said, admit, at, at_wall, driven, frame, greeting, list, next, next_two, next_unsent,
-    open, pace, prove, tested, track,
+    SETTINGS, Said, admit, admitted, at, at_wall, driven, frame, greeting, list, next, next_two,
+    next_unsent, open, pace, prove, tested, track, with_channels,
 };
 use p2p_discovery::codec::TestKey;
 use p2p_driver::actions::{Event, Why};
@@ -60,7 +60,7 @@ fn heard_again(
 ) -> Result<(Said, [Said; 2]), Fail> {
     open(alloc, driver, "track 0 1,2")?;
     // The question that is owed is answered.
-    driver.admit(Link(1), &list(alloc, &["2@1000"])?, at(3_000));
+    admitted(driver, Link(1), &list(alloc, &["2@1000"])?, at(3_000));
     let _heard = driver.judged(Link(1), &[true], at(3_000));
     admit(alloc, driver, bytes, 100_000)?;
     next_two(driver);
@@ -73,7 +73,7 @@ fn a_frame_ends_the_silence(rt: HostRuntime) -> Result<(), Fail> {
     // A message, a question, the empty list, and a list that nobody asked for.
     let frames: [&'static [u8]; 4] = [&[0, 3, 0], &[2, 0, 2, 0], &[3, 0], &[3, 1]];
     for bytes in frames {
-        let found = tested(alloc, pace(alloc), |driver| {
+        let found = tested(alloc, with_channels(alloc)?, |driver| {
             heard_again(alloc, driver, bytes)
         })??;
         assert_eq!(rt; found, (Said::Nothing, silent()));
@@ -90,7 +90,7 @@ fn list_waits(
     millis: u64,
 ) -> Result<(Said, [Said; 2]), Fail> {
     open(alloc, driver, "track 0 1,2")?;
-    driver.admit(Link(1), &list(alloc, &["2@1000"])?, at(50_000));
+    admitted(driver, Link(1), &list(alloc, &["2@1000"])?, at(50_000));
     if is_judged {
         let _heard = driver.judged(Link(1), &[true], at(60_000));
     }
@@ -117,7 +117,7 @@ fn unjudged(alloc: Global, driver: &mut Driver<TestKey>) -> Result<Unjudged, Fai
     track(alloc, driver, "track 0 1,2", 0)?;
     prove(driver, 1, 1, 1_000)?;
     next(driver);
-    driver.admit(Link(1), &greeting(alloc, "1@1000")?, at(2_000));
+    admitted(driver, Link(1), &greeting(alloc, "1@1000")?, at(2_000));
     let said = told(driver, 122_000)?;
     Ok((said, driver.judged(Link(1), &[true], at(122_001))))
 }
@@ -136,15 +136,16 @@ fn a_greeting_that_waits_is_in_time(rt: HostRuntime) -> Result<(), Fail> {
     Ok(())
 }
 
-// What the tested driver says 120 s after a message that came at 10 s, when the wall clock stood
-// there.
+// What the tested driver says 120 s after the empty list that came at 10 s, when the wall clock
+// stood there.
 fn jumps(
     alloc: Global,
     driver: &mut Driver<TestKey>,
     wall: u64,
 ) -> Result<(Said, [Said; 2], Option<Duration>), Fail> {
     open(alloc, driver, "track 0 1,2")?;
-    driver.admit(Link(1), &frame(alloc, &[0, 3, 0])?, at_wall(10_000, wall));
+    let empty = frame(alloc, &[3, 0])?;
+    admitted(driver, Link(1), &empty, at_wall(10_000, wall));
     driver.timeout(at_wall(101_000, wall))?;
     let wake = driver.next_timeout();
     driver.timeout(at_wall(129_999, 0))?;
@@ -164,12 +165,12 @@ fn a_wall_clock_that_jumps_moves_no_deadline(rt: HostRuntime) -> Result<(), Fail
     Ok(())
 }
 
-// What the tested driver says 120 s after a message that came at 90 s by a steady clock that went
-// back from 100 s.
+// What the tested driver says 120 s after the empty list that came at 90 s by a steady clock that
+// went back from 100 s.
 fn back(alloc: Global, driver: &mut Driver<TestKey>) -> Result<(Said, [Said; 2]), Fail> {
     open(alloc, driver, "track 0 1,2")?;
     driver.timeout(at(100_000))?;
-    admit(alloc, driver, &[0, 3, 0], 90_000)?;
+    admit(alloc, driver, &[3, 0], 90_000)?;
     Ok(told(driver, 220_000)?)
 }
 

@@ -2,7 +2,8 @@
 //! handed in again.
 
 use crate::fixtures::{
-    SETTINGS, Said, at, driven, frame, greeting, list, next, next_two, open, pace, prove, track,
+    SETTINGS, Said, admitted, at, driven, frame, greeting, length, list, next, next_two, open,
+    pace, prove, track,
 };
 use bytes::Bytes;
 use failing_alloc::{FailingAlloc, STEP};
@@ -39,9 +40,9 @@ fn is_mixed(rt: &impl Abort, dropped: usize) {
     assert!(rt; dropped > 0 && dropped < STEPS, "{dropped} dropped");
 }
 
-// Lets a frame come on link 1 at 3 s with more and more memory until the tested driver doesn't drop
-// it. Returns the answer, how often it was dropped, and whether what is seen of the driver stayed
-// the same meanwhile.
+// Hands in a frame of link 1 that is to be read, at 3 s, with more and more memory until the tested
+// driver doesn't drop it. Returns the answer, how often it was dropped, and whether what is seen of
+// the driver stayed the same meanwhile.
 fn comes(
     alloc: Global,
     memory: &mut FailingAlloc,
@@ -108,12 +109,13 @@ fn then(driver: &mut Driver<TestKey>) -> Result<Said, AllocError> {
     Ok(next(driver))
 }
 
-// What the tested driver answers to a frame at 100 s without memory, and at 3 s with more and more;
-// what it says then; and what at 123 s.
+// What the tested driver answers to a frame that is to be read at 3 s: at 100 s without memory, and
+// at 3 s with more and more; what it says then; and what at 123 s.
 type Came = (Admission, (Admission, usize, bool), [Said; 2], Said);
 
 fn came(alloc: Global, driver: &mut Driver<TestKey>, frame: &Bytes) -> Result<Came, Fail> {
     let mut memory = FailingAlloc::new(alloc)?;
+    length(driver, Link(1), frame.as_slice(), at(3_000));
     memory.limit(alloc, 0)?;
     let refused = driver.admit(Link(1), frame, at(100_000));
     memory.lift();
@@ -206,14 +208,14 @@ fn greeting_judged(alloc: Global, driver: &mut Driver<TestKey>) -> Result<Told, 
     track(alloc, driver, "track 0 1,2", 0)?;
     prove(driver, 1, 1, 1_000)?;
     next(driver);
-    driver.admit(Link(1), &greeting(alloc, "1@1000")?, at(2_000));
+    admitted(driver, Link(1), &greeting(alloc, "1@1000")?, at(2_000));
     told(alloc, driver, 1)
 }
 
 // .. on a list.
 fn list_judged(alloc: Global, driver: &mut Driver<TestKey>) -> Result<Told, Fail> {
     open(alloc, driver, "track 0 1,2")?;
-    driver.admit(Link(1), &list(alloc, &["2@1000"])?, at(2_000));
+    admitted(driver, Link(1), &list(alloc, &["2@1000"])?, at(2_000));
     told(alloc, driver, 2)
 }
 
@@ -286,7 +288,7 @@ fn breaks(alloc: Global, driver: &mut Driver<TestKey>) -> Result<Broken, Fail> {
     open(alloc, driver, "track 0 1,2")?;
     let cut = frame(alloc, &[2])?;
     memory.limit(alloc, 0)?;
-    let answer = driver.admit(Link(1), &cut, at(3_000));
+    let answer = admitted(driver, Link(1), &cut, at(3_000));
     memory.lift();
     let said = next_two(driver);
     let is_told = next(driver) != Said::Nothing;
@@ -314,12 +316,12 @@ fn needs_none(alloc: Global, driver: &mut Driver<TestKey>) -> Result<[Admission;
     open(alloc, driver, "track 0 1,2")?;
     let unasked = frame(alloc, &[3, 1])?;
     // The question that is owed is answered.
-    driver.admit(Link(1), &list(alloc, &["2@1000"])?, at(3_000));
+    admitted(driver, Link(1), &list(alloc, &["2@1000"])?, at(3_000));
     let _heard = driver.judged(Link(1), &[true], at(3_000));
     let second = frame(alloc, &[1])?;
     memory.limit(alloc, 0)?;
-    let ignored = driver.admit(Link(1), &unasked, at(4_000));
-    let broken = driver.admit(Link(1), &second, at(4_001));
+    let ignored = admitted(driver, Link(1), &unasked, at(4_000));
+    let broken = admitted(driver, Link(1), &second, at(4_001));
     memory.lift();
     Ok([ignored, broken])
 }

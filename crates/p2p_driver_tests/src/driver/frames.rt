@@ -1,8 +1,8 @@
 //! Frames of a link: a greeting, then messages, and lists of infos that were asked for.
 
 use crate::fixtures::{
-    SETTINGS, Said, admit, at, claim, driven, frame, greeting, list, next, next_two, open, pace,
-    prove, sends, track,
+    SETTINGS, Said, admit, admitted, at, claim, driven, frame, greeting, list, next, next_two,
+    open, pace, prove, sends, track, with_channels,
 };
 use p2p_directory::record::Status;
 use p2p_discovery::codec::TestKey;
@@ -32,7 +32,7 @@ type Greeted = (
 fn greeted(alloc: Global, driver: &mut Driver<TestKey>) -> Result<Greeted, Fail> {
     track(alloc, driver, "track 0 1,2", 0)?;
     prove(driver, 1, 1, 1_000)?;
-    let came = driver.admit(Link(1), &greeting(alloc, "1@1000")?, at(2_000));
+    let came = admitted(driver, Link(1), &greeting(alloc, "1@1000")?, at(2_000));
     let said = next_two(driver);
     let before = driver.node().status(&TestKey(1));
     let heard = driver.judged(Link(1), &[true], at(3_000));
@@ -70,9 +70,9 @@ type Asked = (Admission, Answer, Admission, Said, [bool; 2]);
 fn asked(alloc: Global, driver: &mut Driver<TestKey>) -> Result<Asked, Fail> {
     open(alloc, driver, "track 0 1,2,3")?;
     let infos = list(alloc, &["2@1000", "3@2000"])?;
-    let first = driver.admit(Link(1), &infos, at(3_000));
+    let first = admitted(driver, Link(1), &infos, at(3_000));
     let heard = driver.judged(Link(1), &[true, true], at(4_000));
-    let second = driver.admit(Link(1), &infos, at(5_000));
+    let second = admitted(driver, Link(1), &infos, at(5_000));
     let known = [
         driver.node().ingress(&TestKey(2))?.is_some(),
         driver.node().ingress(&TestKey(3))?.is_some(),
@@ -106,7 +106,7 @@ fn empty(alloc: Global, driver: &mut Driver<TestKey>) -> Result<Empty, Fail> {
     let asked = [
         admit(alloc, driver, &[3, 0], 3_000)?,
         admit(alloc, driver, &[3, 0], 3_001)?,
-        driver.admit(Link(1), &list(alloc, &["2@1000"])?, at(3_002)),
+        admitted(driver, Link(1), &list(alloc, &["2@1000"])?, at(3_002)),
     ];
     let heard = driver.judged(Link(1), &[true], at(3_003));
     let unasked = [
@@ -157,7 +157,7 @@ fn a_message_is_a_range_of_its_frame(rt: HostRuntime) -> Result<(), Fail> {
     let found = driven(
         alloc,
         SETTINGS,
-        pace(alloc),
+        with_channels(alloc)?,
         |driver| messages(alloc, driver),
     )??;
     let answers = [message(3, 3, 5), message(3, 3, 3), message(300, 4, 5)];
@@ -173,13 +173,13 @@ fn waits(alloc: Global, driver: &mut Driver<TestKey>) -> Result<Waits, Fail> {
     track(alloc, driver, "track 0 1,2", 0)?;
     prove(driver, 1, 1, 1_000)?;
     let greeting = greeting(alloc, "1@1000")?;
-    driver.admit(Link(1), &greeting, at(2_000));
+    admitted(driver, Link(1), &greeting, at(2_000));
     let early = [
         admit(alloc, driver, &[2, 0, 2, 0], 2_001)?,
-        driver.admit(Link(1), &greeting, at(2_002)),
+        admitted(driver, Link(1), &greeting, at(2_002)),
     ];
     let _heard = driver.judged(Link(1), &[true], at(2_003));
-    driver.admit(Link(1), &list(alloc, &["2@1000"])?, at(2_004));
+    admitted(driver, Link(1), &list(alloc, &["2@1000"])?, at(2_004));
     let late = [
         admit(alloc, driver, &[2, 0, 2, 0], 2_005)?,
         admit(alloc, driver, &[0, 3, 0], 2_006)?,
@@ -205,19 +205,19 @@ fn no_frame_comes_while_one_waits(rt: HostRuntime) -> Result<(), Fail> {
 // proved, on a link that is closing, and on it once it ended.
 fn nowhere(alloc: Global, driver: &mut Driver<TestKey>) -> Result<[Admission; 4], Fail> {
     let message = frame(alloc, &[0, 3, 0])?;
-    let never = driver.admit(Link(1), &message, at(0));
+    let never = admitted(driver, Link(1), &message, at(0));
     track(alloc, driver, "track 0 1,2", 0)?;
     claim(driver, 1, 1, 1_000)?;
-    let unproved = driver.admit(Link(1), &message, at(1_000));
+    let unproved = admitted(driver, Link(1), &message, at(1_000));
     driver.proved(Link(1), TestKey(1), 0, at(1_000))?;
     driver.part(&TestKey(1), at(1_001));
-    let closing = driver.admit(Link(1), &message, at(1_002));
+    let closing = admitted(driver, Link(1), &message, at(1_002));
     driver.ended(Link(1), at(1_003));
     Ok([
         never,
         unproved,
         closing,
-        driver.admit(Link(1), &message, at(1_004)),
+        admitted(driver, Link(1), &message, at(1_004)),
     ])
 }
 
@@ -250,12 +250,12 @@ fn misjudges(alloc: Global, driver: &mut Driver<TestKey>) -> Result<[bool; 6], F
     prove(driver, 1, 1, 1_000)?;
     let never = driver.judged(Link(2), &[true], at(1_001)) == Err(Misjudged);
     let nothing = driver.judged(Link(1), &[], at(1_002)) == Err(Misjudged);
-    driver.admit(Link(1), &greeting(alloc, "1@1000")?, at(2_000));
+    admitted(driver, Link(1), &greeting(alloc, "1@1000")?, at(2_000));
     let none = driver.judged(Link(1), &[], at(2_001)) == Err(Misjudged);
     let two = driver.judged(Link(1), &[true, true], at(2_002)) == Err(Misjudged);
     let _heard = driver.judged(Link(1), &[true], at(2_003));
     let twice = driver.judged(Link(1), &[true], at(2_004)) == Err(Misjudged);
-    driver.admit(Link(1), &list(alloc, &["2@1000"])?, at(2_005));
+    admitted(driver, Link(1), &list(alloc, &["2@1000"])?, at(2_005));
     driver.part(&TestKey(1), at(2_006));
     let closed = driver.judged(Link(1), &[true], at(2_007)) == Err(Misjudged);
     Ok([never, nothing, none, two, twice, closed])

@@ -1,7 +1,8 @@
 //! Verdicts: infos that are refused, and those of the future.
 
 use crate::fixtures::{
-    SETTINGS, Said, at, driven, greeting, list, next, next_two, open, pace, prove, tested, track,
+    SETTINGS, Said, admitted, at, driven, greeting, list, next, next_two, open, pace, prove,
+    tested, track,
 };
 use p2p_discovery::codec::TestKey;
 use p2p_discovery::discovery::Error;
@@ -32,7 +33,7 @@ fn greets(
     track(alloc, driver, "track 0 1,2", 0)?;
     prove(driver, 1, 1, 1_000)?;
     next(driver);
-    let came = driver.admit(Link(1), &greeting(alloc, word)?, at(2_000));
+    let came = admitted(driver, Link(1), &greeting(alloc, word)?, at(2_000));
     let heard = driver.judged(Link(1), &[right], at(3_000));
     let said = next_two(driver);
     let known = driver.node().ingress(&TestKey(1))?.is_some();
@@ -163,7 +164,7 @@ fn refused(
     verdicts: &[bool],
 ) -> Result<Refused, Fail> {
     open(alloc, driver, "track 0 1,2,3")?;
-    let came = driver.admit(Link(1), &list(alloc, words)?, at(4_000));
+    let came = admitted(driver, Link(1), &list(alloc, words)?, at(4_000));
     let heard = driver.judged(Link(1), verdicts, at(5_000));
     let said = next_two(driver);
     let known = driver.node().ingress(&TestKey(2))?.is_some();
@@ -224,7 +225,7 @@ fn at_bound(
     driver: &mut Driver<TestKey>,
 ) -> Result<(Admission, Result<Heard, Misjudged>), Fail> {
     open(alloc, driver, "track 0 1,2")?;
-    let came = driver.admit(Link(1), &list(alloc, &["2@1026000"])?, at(4_000));
+    let came = admitted(driver, Link(1), &list(alloc, &["2@1026000"])?, at(4_000));
     Ok((came, driver.judged(Link(1), &[true], at(5_000))))
 }
 

@@ -1,8 +1,8 @@
 //! Links that are up, when they end, when a set closes them, and when there are two.
 
 use crate::fixtures::{
-    SETTINGS, Said, admit, at, driven, frame, greeting, list, next, next_two, open, pace, prove,
-    track,
+    SETTINGS, Said, admit, admitted, at, driven, frame, greeting, list, next, next_two, open, pace,
+    prove, track, with_channels,
 };
 use p2p_directory::record::Status;
 use p2p_discovery::codec::TestKey;
@@ -26,14 +26,14 @@ type Anew = (
 
 fn anew(alloc: Global, driver: &mut Driver<TestKey>) -> Result<Anew, Fail> {
     open(alloc, driver, "track 0 1,2")?;
-    driver.admit(Link(1), &list(alloc, &["2@1000"])?, at(3_000));
+    admitted(driver, Link(1), &list(alloc, &["2@1000"])?, at(3_000));
     let ended = driver.ended(Link(1), at(4_000));
     let said = next_two(driver);
     let status = driver.node().status(&TestKey(1));
     let verdict = driver.judged(Link(1), &[true], at(4_001));
     prove(driver, 1, 1, 61_000)?;
     let question = frame(alloc, &[2, 0, 2, 0])?;
-    let first = driver.admit(Link(2), &question, at(61_001));
+    let first = admitted(driver, Link(2), &question, at(61_001));
     Ok((ended, said, status, verdict, first))
 }
 
@@ -87,22 +87,24 @@ type Two = (
 fn two(alloc: Global, driver: &mut Driver<TestKey>) -> Result<Two, Fail> {
     open(alloc, driver, "track 0 1,2,3")?;
     prove(driver, 2, 2, 2_000)?;
-    driver.admit(Link(1), &list(alloc, &["3@1000"])?, at(3_000));
-    let came = driver.admit(Link(2), &greeting(alloc, "2@1000")?, at(3_001));
+    admitted(driver, Link(1), &list(alloc, &["3@1000"])?, at(3_000));
+    let came = admitted(driver, Link(2), &greeting(alloc, "2@1000")?, at(3_001));
     let heard = driver.judged(Link(2), &[true], at(3_002));
-    let asked = driver.admit(Link(2), &list(alloc, &["3@2000"])?, at(3_003));
+    let asked = admitted(driver, Link(2), &list(alloc, &["3@2000"])?, at(3_003));
     let waited = driver.judged(Link(1), &[true], at(3_004));
     let broken = admit(alloc, driver, &[1], 3_005)?;
     let _heard = driver.judged(Link(2), &[true], at(3_006));
     let message = frame(alloc, &[0, 3, 0])?;
-    let last = driver.admit(Link(2), &message, at(3_007));
+    let last = admitted(driver, Link(2), &message, at(3_007));
     Ok(((came, heard, asked), (waited, broken), last))
 }
 
 #[test]
 fn links_of_two_peers_do_not_meet(rt: HostRuntime) -> Result<(), Fail> {
     let alloc = rt.alloc();
-    let found = driven(alloc, SETTINGS, pace(alloc), |driver| two(alloc, driver))??;
+    let found = driven(alloc, SETTINGS, with_channels(alloc)?, |driver| {
+        two(alloc, driver)
+    })??;
     let (second, first, last) = found;
     let (came, heard, asked) = second;
     assert_eq!(rt; (came, heard), (Admission::Verify(1), Ok(Heard::Greeted)));
@@ -123,13 +125,13 @@ fn links_of_two_peers_do_not_meet(rt: HostRuntime) -> Result<(), Fail> {
 fn both_ask(alloc: Global, driver: &mut Driver<TestKey>) -> Result<([Said; 3], [Said; 2]), Fail> {
     open(alloc, driver, "track 0 1,2")?;
     prove(driver, 2, 2, 2_000)?;
-    driver.admit(Link(2), &greeting(alloc, "2@1000")?, at(3_001));
+    admitted(driver, Link(2), &greeting(alloc, "2@1000")?, at(3_001));
     let _heard = driver.judged(Link(2), &[true], at(3_002));
     let [first, second] = next_two(driver);
     let third = next(driver);
     let question = frame(alloc, &[2, 0, 2, 0])?;
-    driver.admit(Link(2), &question, at(3_003));
-    driver.admit(Link(1), &question, at(3_004));
+    admitted(driver, Link(2), &question, at(3_003));
+    admitted(driver, Link(1), &question, at(3_004));
     Ok(([first, second, third], next_two(driver)))
 }
 

@@ -1,8 +1,8 @@
 //! Questions of a peer, and the first one that it is asked.
 
 use crate::fixtures::{
-    SETTINGS, Said, admit, at, at_wall, driven, frame, greet, infos, list, next, open, pace, prove,
-    sends, tested, track,
+    SETTINGS, Said, admit, admitted, at, at_wall, driven, frame, greet, infos, list, next, open,
+    pace, prove, sends, tested, track,
 };
 use p2p_discovery::codec::TestKey;
 use p2p_driver::admission::{Admission, Heard};
@@ -27,7 +27,7 @@ fn answered(
 ) -> Result<(Admission, bool), Fail> {
     open(alloc, driver, "track 0 1,2,9")?;
     driver.update_peers(infos(alloc, &["2@1000"])?, at(2_000));
-    let came = driver.admit(Link(1), &frame(alloc, question)?, now);
+    let came = admitted(driver, Link(1), &frame(alloc, question)?, now);
     let reply = list(alloc, words)?;
     let sent = sends(driver, reply.as_slice());
     Ok((came, sent && next(driver) == Said::Nothing))
@@ -154,7 +154,7 @@ fn many(alloc: Global, driver: &mut Driver<TestKey>) -> Result<[Admission; 3], F
     Ok([
         admit(alloc, driver, &[2, 0, 2, 0], 3_000)?,
         admit(alloc, driver, &[2, 0, 2, 0], 3_001)?,
-        driver.admit(Link(1), &list(alloc, &["2@1000"])?, at(3_002)),
+        admitted(driver, Link(1), &list(alloc, &["2@1000"])?, at(3_002)),
     ])
 }
 

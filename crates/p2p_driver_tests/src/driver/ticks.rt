@@ -1,8 +1,8 @@
 //! Further questions of a link: when its peer is asked again, who isn't, and when a driver wakes.
 
 use crate::fixtures::{
-    SETTINGS, Said, at, driven, greet, greeting, list, next, next_two, open, pace, prove, tested,
-    track,
+    SETTINGS, Said, admitted, at, driven, greet, greeting, list, next, next_two, open, pace, prove,
+    tested, track,
 };
 use p2p_discovery::codec::TestKey;
 use p2p_driver::actions::{Event, Why};
@@ -79,7 +79,7 @@ fn a_tick_is_as_long_as_the_settings_say(rt: HostRuntime) -> Result<(), Fail> {
 // Lets peer 2 in by the tested driver at a time, has it greet then, and takes what is said.
 fn second(alloc: Global, driver: &mut Driver<TestKey>, millis: u64) -> Result<bool, Fail> {
     prove(driver, 2, 2, millis)?;
-    driver.admit(Link(2), &greeting(alloc, "2@1000")?, at(millis));
+    admitted(driver, Link(2), &greeting(alloc, "2@1000")?, at(millis));
     let heard = driver.judged(Link(2), &[true], at(millis));
     next_two(driver);
     next(driver);
@@ -148,7 +148,7 @@ fn ungreeted(alloc: Global, driver: &mut Driver<TestKey>) -> Result<Ungreeted, F
     prove(driver, 1, 1, 1_000)?;
     next(driver);
     let early = told(driver, 40_000_000_000)?;
-    driver.admit(Link(1), &greeting(alloc, "1@1000")?, at(45_000));
+    admitted(driver, Link(1), &greeting(alloc, "1@1000")?, at(45_000));
     let waiting = told(driver, 50_000_000_000)?;
     let wake = driver.next_timeout();
     let _heard = driver.judged(Link(1), &[true], at(51_000));
@@ -241,7 +241,7 @@ fn comes(
     word: &'static str,
     millis: u64,
 ) -> Result<Came, Fail> {
-    let came = driver.admit(Link(1), &list(alloc, &[word])?, at(millis));
+    let came = admitted(driver, Link(1), &list(alloc, &[word])?, at(millis));
     Ok((came, driver.judged(Link(1), &[true], at(millis))))
 }
 

@@ -41,7 +41,7 @@ fn asks_at(alloc: Global, driver: &mut Driver<TestKey>, ticks: &[Tick]) -> Resul
         if let Some(line) = line {
             track(alloc, driver, *line, before)?;
         }
-        admit(alloc, driver, &[0, 3, 0], before)?;
+        admit(alloc, driver, &[3, 0], before)?;
         driver.timeout(at(millis))?;
         all = all && sends(driver, *question) && next(driver) == Said::Nothing;
     }

@@ -1,8 +1,8 @@
 //! Questions that find no memory: they are left out, the call says so, and they come a tick later.
 
 use crate::fixtures::{
-    SETTINGS, Said, at, driven, greeting, ipv4, list, next, next_two, open, pace, prove, sends,
-    track,
+    SETTINGS, Said, admitted, at, driven, greeting, ipv4, list, next, next_two, open, pace, prove,
+    sends, track,
 };
 use failing_alloc::{FailingAlloc, STEP};
 use p2p_directory::directory::TrackedPeers;
@@ -102,13 +102,13 @@ fn enter(alloc: Global, driver: &mut Driver<TestKey>) -> Result<(), Fail> {
     track(alloc, driver, "track 0 1,2", 0)?;
     driver.track(1, many(alloc)?, at(0))?;
     prove(driver, 1, 2, 1_000)?;
-    driver.admit(Link(1), &greeting(alloc, "2@1000")?, at(2_000));
+    admitted(driver, Link(1), &greeting(alloc, "2@1000")?, at(2_000));
     let _heard = driver.judged(Link(1), &[true], at(2_000));
     next_two(driver);
     driver.timeout(at(32_000))?;
     next_two(driver);
     prove(driver, 2, 1, 39_000)?;
-    driver.admit(Link(2), &greeting(alloc, "1@1000")?, at(40_000));
+    admitted(driver, Link(2), &greeting(alloc, "1@1000")?, at(40_000));
     let _heard = driver.judged(Link(2), &[true], at(40_000));
     next_two(driver);
     next(driver);
@@ -169,15 +169,15 @@ fn without_memory_for_one_question_the_others_are_asked(rt: HostRuntime) -> Resu
 fn owes(alloc: Global, driver: &mut Driver<TestKey>) -> Result<([bool; 2], [Admission; 2]), Fail> {
     let mut memory = FailingAlloc::new(alloc)?;
     open(alloc, driver, "track 0 1,2")?;
-    driver.admit(Link(1), &list(alloc, &["2@1000"])?, at(3_000));
+    admitted(driver, Link(1), &list(alloc, &["2@1000"])?, at(3_000));
     let _heard = driver.judged(Link(1), &[true], at(3_000));
     memory.limit(alloc, 0)?;
     let early = driver.timeout(at(31_999)).is_err();
     let failed = driver.timeout(at(32_000)).is_err();
     memory.lift();
-    let unasked = driver.admit(Link(1), &list(alloc, &["2@2000"])?, at(33_000));
+    let unasked = admitted(driver, Link(1), &list(alloc, &["2@2000"])?, at(33_000));
     driver.timeout(at(62_000))?;
-    let asked = driver.admit(Link(1), &list(alloc, &["2@2000"])?, at(63_000));
+    let asked = admitted(driver, Link(1), &list(alloc, &["2@2000"])?, at(63_000));
     Ok(([early, failed], [unasked, asked]))
 }
 

@@ -4,7 +4,9 @@ use Rattle.std.specs.Duration.{as_nanos}
 use Rattle.p2p_directory.specs.Received.{Wire}
 use Rattle.p2p_driver.specs.Admissions.{SeenIn}
 use Rattle.p2p_driver.specs.Drivers.{seen, wire_with}
-use Rattle.p2p_driver.proofs.DrivingFrames.{came_on, linked_as}
+use Rattle.p2p_driver.proofs.DrivingFrames.{came_on, linked_as, expected_in}
+use Rattle.p2p_driver.specs.Links.{is_unexpected}
+use Rattle.p2p_driver.specs.declared.links.Phase.TheVariants as phase
 use Rattle.p2p_driver.proofs.Fewer.{none_of}
 use Rattle.p2p_driver.proofs.driver.Driver.admit.Given as given
 use Rattle.p2p_driver.proofs.driver.Driver.admit.Goals as goal
@@ -20,13 +22,15 @@ came-requires g c =
     let linked = sym c.get.ensures ∙ ap (option_map (λ h. h.now)) c.in-Some-get.is in
     came_on g.C.Ord.cmp (wire_in g) c.args.link.0 c.in-Some.peer held.owed c.args.frame.now c.args.now.wall c.first-came.result
     (seen c.self.inside.node c.self.inside.pace c.self.inside.greeting (as_nanos c.self.inside.cooldown) (as_nanos c.self.inside.latest)
-    c.self.inside.next c.self.inside.arrivals c.self.inside.answers c.self.inside.links c.self.inside.actions.items)
+    c.self.inside.next c.self.inside.arrivals c.self.inside.answers c.self.inside.reads c.self.inside.links c.self.inside.actions.items)
     c.args.self.now held c.self.view_is linked
     (linked_as g.C.Ord.cmp c.self.inside.links c.in-Some.peer held c.args.link.0 linked c.in-Some.ensures.found) refl
     (none_of held.waiting (sym c.is_some.ensures ∙ c.if-is_some.false))
+    (expected_in c.args.frame.now held phase.Greeting (c.in-Greeting.is) refl
+    (ap (λ xs. is_unexpected xs held) (sym c.as_slice.ensures) ∙ sym c.is_unexpected.ensures ∙ c.if-is_unexpected.false))
     (subst (λ ph. SeenIn g.C.Ord.cmp (wire_in g) ph c.in-Some.peer held.owed c.args.frame.now c.args.now.wall c.first-came.result
     (seen c.self.inside.node c.self.inside.pace c.self.inside.greeting (as_nanos c.self.inside.cooldown) (as_nanos c.self.inside.latest)
-    c.self.inside.next c.self.inside.arrivals c.self.inside.answers c.self.inside.links c.self.inside.actions.items).node)
+    c.self.inside.next c.self.inside.arrivals c.self.inside.answers c.self.inside.reads c.self.inside.links c.self.inside.actions.items).node)
     (sym c.in-Greeting.is) c.first-came.ensures)
 
 pub came-requires-in-Open : goal.came-requires-in-Open
@@ -35,11 +39,13 @@ came-requires-in-Open g c =
     let linked = sym c.get.ensures ∙ ap (option_map (λ h. h.now)) c.in-Some-get.is in
     came_on g.C.Ord.cmp (wire_in g) c.args.link.0 c.in-Some.peer held.owed c.args.frame.now c.args.now.wall c.next-came.result
     (seen c.self.inside.node c.self.inside.pace c.self.inside.greeting (as_nanos c.self.inside.cooldown) (as_nanos c.self.inside.latest)
-    c.self.inside.next c.self.inside.arrivals c.self.inside.answers c.self.inside.links c.self.inside.actions.items)
+    c.self.inside.next c.self.inside.arrivals c.self.inside.answers c.self.inside.reads c.self.inside.links c.self.inside.actions.items)
     c.args.self.now held c.self.view_is linked
     (linked_as g.C.Ord.cmp c.self.inside.links c.in-Some.peer held c.args.link.0 linked c.in-Some.ensures.found) refl
     (none_of held.waiting (sym c.is_some.ensures ∙ c.if-is_some.false))
+    (expected_in c.args.frame.now held phase.Open (c.in-Open.is) refl
+    (ap (λ xs. is_unexpected xs held) (sym c.as_slice.ensures) ∙ sym c.is_unexpected.ensures ∙ c.if-is_unexpected.false))
     (subst (λ ph. SeenIn g.C.Ord.cmp (wire_in g) ph c.in-Some.peer held.owed c.args.frame.now c.args.now.wall c.next-came.result
     (seen c.self.inside.node c.self.inside.pace c.self.inside.greeting (as_nanos c.self.inside.cooldown) (as_nanos c.self.inside.latest)
-    c.self.inside.next c.self.inside.arrivals c.self.inside.answers c.self.inside.links c.self.inside.actions.items).node)
+    c.self.inside.next c.self.inside.arrivals c.self.inside.answers c.self.inside.reads c.self.inside.links c.self.inside.actions.items).node)
     (sym c.in-Open.is) c.next-came.ensures)

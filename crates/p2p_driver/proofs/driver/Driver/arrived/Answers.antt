@@ -13,7 +13,7 @@ invariant_of-self-in_default-room g c = (
   goes_on (Happening.Arrived c.self.inside.next c.of.result c.later-now.result c.in_ok-room.room) _ _
       c.self.invariant.0
       (comes c.self.inside.node c.self.inside.pace c.self.inside.greeting (as_nanos c.self.inside.cooldown) (as_nanos c.self.inside.latest)
-      c.self.inside.next c.self.inside.arrivals c.self.inside.answers c.self.inside.links c.self.inside.actions.items
+      c.self.inside.next c.self.inside.arrivals c.self.inside.answers c.self.inside.reads c.self.inside.links c.self.inside.actions.items
       c.of.result c.later-now.result c.in_ok-room.room c.take.new.arrivals c.take.new.answers c.take.new.actions.items c.in-Some.next
       (no_earlier _ _ _ c.later-now.ensures) c.in_default-room.not-None c.in_ok-room.ensures.room c.in_ok-room.ensures.arrivals
       c.in_ok-room.ensures.answers c.in_ok-room.ensures.said (search rules)),
@@ -27,7 +27,7 @@ invariant_of-self-in_default-room g c = (
 pub returns-in-None-clause-none : goal.returns-in-None-clause-none
 returns-in-None-clause-none g c = λ _. (
   kept_view c.self.inside.node c.self.inside.pace c.self.inside.greeting (as_nanos c.self.inside.cooldown) (as_nanos c.self.inside.latest)
-      c.self.inside.next c.self.inside.arrivals c.self.inside.answers c.self.inside.links c.self.inside.actions.items
+      c.self.inside.next c.self.inside.arrivals c.self.inside.answers c.self.inside.reads c.self.inside.links c.self.inside.actions.items
       _ c.take.new.answers _ (c.in_ok-room.ensures.arrivals ∙ ap (λ space. arrived (arrival_of c.self.inside.next c.of.result c.later-now.result) space c.self.inside.arrivals) c.in-None.is)
       c.in_ok-room.ensures.answers (c.in_ok-room.ensures.said ∙ search rules) ∙ c.self.view_is,
   subst (HasNoRoom _ (as_nanos c.args.now.steady)) c.self.view_is (inl (λ from is.
@@ -48,7 +48,7 @@ returns-in_default-room g c = record {
       c.later-now.result,
       c.later-now.ensures,
       comes c.self.inside.node c.self.inside.pace c.self.inside.greeting (as_nanos c.self.inside.cooldown) (as_nanos c.self.inside.latest)
-          c.self.inside.next c.self.inside.arrivals c.self.inside.answers c.self.inside.links c.self.inside.actions.items
+          c.self.inside.next c.self.inside.arrivals c.self.inside.answers c.self.inside.reads c.self.inside.links c.self.inside.actions.items
           c.of.result c.later-now.result c.in_ok-room.room c.take.new.arrivals c.take.new.answers c.take.new.actions.items c.in-Some.next
           (no_earlier _ _ _ c.later-now.ensures) c.in_default-room.not-None c.in_ok-room.ensures.room c.in_ok-room.ensures.arrivals
           c.in_ok-room.ensures.answers c.in_ok-room.ensures.said (search rules),

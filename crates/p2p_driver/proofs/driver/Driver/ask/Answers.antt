@@ -31,7 +31,7 @@ invariant_of-self g c = let d = c.self.inside in
     let there = subst (λ (v : DriverView g.row.C.Denot g.row.C-Signature.Denot). IsSomeAnd (link_of g.C.Ord.cmp v.links c.args.peer.now)
     (λ held. is_to_ask (as_nanos v.pace.tick) (as_nanos c.args.now) held ≡ true)) (sym c.self.view_is) c.requires.due in
     let due = subst (λ o. IsSomeAnd o (λ held. is_to_ask (as_nanos d.pace.tick) (as_nanos c.args.now) held ≡ true)) linked there in (
-      goes_on _ _ _ c.self.invariant.0 (asks_one g.C.Ord.cmp (wire_in g) d.node d.pace d.greeting (as_nanos d.cooldown) (as_nanos d.latest) d.next d.arrivals d.answers d.links d.actions.items g.met.C.PublicKey.exact
+      goes_on _ _ _ c.self.invariant.0 (asks_one g.C.Ord.cmp (wire_in g) d.node d.pace d.greeting (as_nanos d.cooldown) (as_nanos d.latest) d.next d.arrivals d.answers d.reads d.links d.actions.items g.met.C.PublicKey.exact
           c.in-Some.held.now.number c.args.peer.now c.in-Some.held.now c.args.now c.in-Some.held.now.owed None false
           c.ask.new.self c.reserve.new.self.items
           (ap (λ (v : DriverView g.row.C.Denot g.row.C-Signature.Denot). v.latest) c.self.view_is ∙ c.requires.time)
@@ -56,8 +56,8 @@ returns-then-is_err g c = let d = c.self.inside in
     (λ held. is_to_ask (as_nanos v.pace.tick) (as_nanos c.args.now) held ≡ true)) (sym c.self.view_is) c.requires.due in
     let due = subst (λ o. IsSomeAnd o (λ held. is_to_ask (as_nanos d.pace.tick) (as_nanos c.args.now) held ≡ true)) linked there in
     subst (λ v. AsksOne g.C.Ord.cmp (wire_in g) c.args.now false v
-    (seen d.node d.pace d.greeting (as_nanos d.cooldown) (as_nanos d.latest) d.next d.arrivals d.answers c.ask.new.self c.reserve.new.self.items))
-    c.self.view_is (asks_one g.C.Ord.cmp (wire_in g) d.node d.pace d.greeting (as_nanos d.cooldown) (as_nanos d.latest) d.next d.arrivals d.answers d.links d.actions.items g.met.C.PublicKey.exact
+    (seen d.node d.pace d.greeting (as_nanos d.cooldown) (as_nanos d.latest) d.next d.arrivals d.answers d.reads c.ask.new.self c.reserve.new.self.items))
+    c.self.view_is (asks_one g.C.Ord.cmp (wire_in g) d.node d.pace d.greeting (as_nanos d.cooldown) (as_nanos d.latest) d.next d.arrivals d.answers d.reads d.links d.actions.items g.met.C.PublicKey.exact
     c.in-Some.held.now.number c.args.peer.now c.in-Some.held.now c.args.now c.in-Some.held.now.owed None false
     c.ask.new.self c.reserve.new.self.items
     (ap (λ (v : DriverView g.row.C.Denot g.row.C-Signature.Denot). v.latest) c.self.view_is ∙ c.requires.time)
@@ -76,7 +76,7 @@ invariant_of-self-2 g c = let d = c.self.inside in
     (λ held. is_to_ask (as_nanos v.pace.tick) (as_nanos c.args.now) held ≡ true)) (sym c.self.view_is) c.requires.due in
     let due = subst (λ o. IsSomeAnd o (λ held. is_to_ask (as_nanos d.pace.tick) (as_nanos c.args.now) held ≡ true)) linked there in
     let asks = c.ask-2.ensures.asks in (
-      goes_on _ _ _ c.self.invariant.0 (asks_one g.C.Ord.cmp (wire_in g) d.node d.pace d.greeting (as_nanos d.cooldown) (as_nanos d.latest) d.next d.arrivals d.answers d.links d.actions.items g.met.C.PublicKey.exact
+      goes_on _ _ _ c.self.invariant.0 (asks_one g.C.Ord.cmp (wire_in g) d.node d.pace d.greeting (as_nanos d.cooldown) (as_nanos d.latest) d.next d.arrivals d.answers d.reads d.links d.actions.items g.met.C.PublicKey.exact
           c.in-Some.held.now.number c.args.peer.now c.in-Some.held.now c.args.now (owed_with asks.0 d.pace.owed c.in-Some.held.now.owed) asks.0 c.ask-2.result
           c.ask-2.new.links c.ask-2.new.actions.items
           (ap (λ (v : DriverView g.row.C.Denot g.row.C-Signature.Denot). v.latest) c.self.view_is ∙ c.requires.time)
@@ -98,8 +98,8 @@ returns g c = let d = c.self.inside in
     let due = subst (λ o. IsSomeAnd o (λ held. is_to_ask (as_nanos d.pace.tick) (as_nanos c.args.now) held ≡ true)) linked there in
     let asks = c.ask-2.ensures.asks in
     subst (λ v. AsksOne g.C.Ord.cmp (wire_in g) c.args.now c.ask-2.result v
-    (seen d.node d.pace d.greeting (as_nanos d.cooldown) (as_nanos d.latest) d.next d.arrivals d.answers c.ask-2.new.links c.ask-2.new.actions.items))
-    c.self.view_is (asks_one g.C.Ord.cmp (wire_in g) d.node d.pace d.greeting (as_nanos d.cooldown) (as_nanos d.latest) d.next d.arrivals d.answers d.links d.actions.items g.met.C.PublicKey.exact
+    (seen d.node d.pace d.greeting (as_nanos d.cooldown) (as_nanos d.latest) d.next d.arrivals d.answers d.reads c.ask-2.new.links c.ask-2.new.actions.items))
+    c.self.view_is (asks_one g.C.Ord.cmp (wire_in g) d.node d.pace d.greeting (as_nanos d.cooldown) (as_nanos d.latest) d.next d.arrivals d.answers d.reads d.links d.actions.items g.met.C.PublicKey.exact
     c.in-Some.held.now.number c.args.peer.now c.in-Some.held.now c.args.now (owed_with asks.0 d.pace.owed c.in-Some.held.now.owed) asks.0 c.ask-2.result
     c.ask-2.new.links c.ask-2.new.actions.items
     (ap (λ (v : DriverView g.row.C.Denot g.row.C-Signature.Denot). v.latest) c.self.view_is ∙ c.requires.time)

@@ -20,7 +20,7 @@ invariant_of-self g c =
       claim_leaves c.self.invariant.0 c.claim-closed.result
           (λ goes. let claimed = c.claim-closed.ensures.claimed goes in
           claims_by c.self.inside.node c.self.inside.pace c.self.inside.greeting (as_nanos c.self.inside.cooldown)
-          (as_nanos c.self.inside.latest) c.self.inside.next c.self.inside.arrivals c.self.inside.answers c.self.inside.links
+          (as_nanos c.self.inside.latest) c.self.inside.next c.self.inside.arrivals c.self.inside.answers c.self.inside.reads c.self.inside.links
           c.self.inside.actions.items n stream c.args.peer c.later-now.result c.may_come-may.result c.claim-closed.new.arrivals
           c.claim-closed.new.answers c.claim-closed.new.actions.items number found none c.may_come-may.ensures
           (no_earlier _ _ _ c.later-now.ensures) claimed.0 claimed.1 claimed.2 claimed.3)
@@ -31,7 +31,7 @@ invariant_of-self g c =
           × AreKept c.self.inside.pace (as_nanos c.later-now.result) claims c.claim-closed.new.answers))
           c.claim-closed.result w stops c.claim-closed.ensures.closed in
           refuses_by c.self.inside.node c.self.inside.pace c.self.inside.greeting (as_nanos c.self.inside.cooldown)
-          (as_nanos c.self.inside.latest) c.self.inside.next c.self.inside.arrivals c.self.inside.answers c.self.inside.links
+          (as_nanos c.self.inside.latest) c.self.inside.next c.self.inside.arrivals c.self.inside.answers c.self.inside.reads c.self.inside.links
           c.self.inside.actions.items n stream c.args.peer c.later-now.result c.may_come-may.result w c.claim-closed.new.arrivals
           c.claim-closed.new.answers c.claim-closed.new.actions.items number found none c.may_come-may.ensures
           (no_earlier _ _ _ c.later-now.ensures) closed.0 closed.1 closed.2),
@@ -53,7 +53,7 @@ returns g c =
     (ap may_claim found ∙ ap (λ claim. not (is_some claim)) none) c.later-now.ensures c.claim-closed.result (search rules)
     (λ goes. let claimed = c.claim-closed.ensures.claimed goes in
     claims_by c.self.inside.node c.self.inside.pace c.self.inside.greeting (as_nanos c.self.inside.cooldown)
-    (as_nanos c.self.inside.latest) c.self.inside.next c.self.inside.arrivals c.self.inside.answers c.self.inside.links
+    (as_nanos c.self.inside.latest) c.self.inside.next c.self.inside.arrivals c.self.inside.answers c.self.inside.reads c.self.inside.links
     c.self.inside.actions.items n stream c.args.peer c.later-now.result c.may_come-may.result c.claim-closed.new.arrivals
     c.claim-closed.new.answers c.claim-closed.new.actions.items number found none c.may_come-may.ensures
     (no_earlier _ _ _ c.later-now.ensures) claimed.0 claimed.1 claimed.2 claimed.3)
@@ -64,7 +64,7 @@ returns g c =
     × AreKept c.self.inside.pace (as_nanos c.later-now.result) claims c.claim-closed.new.answers))
     c.claim-closed.result w stops c.claim-closed.ensures.closed in
     refuses_by c.self.inside.node c.self.inside.pace c.self.inside.greeting (as_nanos c.self.inside.cooldown)
-    (as_nanos c.self.inside.latest) c.self.inside.next c.self.inside.arrivals c.self.inside.answers c.self.inside.links
+    (as_nanos c.self.inside.latest) c.self.inside.next c.self.inside.arrivals c.self.inside.answers c.self.inside.reads c.self.inside.links
     c.self.inside.actions.items n stream c.args.peer c.later-now.result c.may_come-may.result w c.claim-closed.new.arrivals
     c.claim-closed.new.answers c.claim-closed.new.actions.items number found none c.may_come-may.ensures
     (no_earlier _ _ _ c.later-now.ensures) closed.0 closed.1 closed.2)

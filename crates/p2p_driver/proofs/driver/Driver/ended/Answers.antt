@@ -10,7 +10,7 @@ pub invariant_of-self : goal.invariant_of-self
 invariant_of-self g c = (
   goes_on (Happening.Left c.args.link.0 c.later-self-inside.result) _ _ c.self.invariant.0
       (leaves_as c.self.inside.node c.self.inside.pace c.self.inside.greeting (as_nanos c.self.inside.cooldown)
-      (as_nanos c.self.inside.latest) c.self.inside.next c.self.inside.arrivals c.self.inside.answers c.self.inside.links
+      (as_nanos c.self.inside.latest) c.self.inside.next c.self.inside.arrivals c.self.inside.answers c.self.inside.reads c.self.inside.links
       c.self.inside.actions.items c.args.link.0 c.later-self-inside.result c.leave.new.arrivals c.leave.new.answers
       c.give_back.new.self.items (sym (ap is_some c.get.ensures) ∙ sym c.is_some.ensures ∙ c.if-is_some.true)
       (no_earlier _ _ _ c.later-self-inside.ensures) c.leave.ensures.arrivals c.leave.ensures.answers c.give_back.ensures.items),
@@ -24,7 +24,7 @@ pub returns-then-is_some : goal.returns-then-is_some
 returns-then-is_some g c = end_left g.C.Ord.cmp _ c.args.link.0 (as_nanos c.args.now.steady) _ _ _ c.self.view_is
     (sym (ap is_some c.get.ensures) ∙ sym c.is_some.ensures ∙ c.if-is_some.true) c.later-self-inside.result c.later-self-inside.ensures
     (leaves_as c.self.inside.node c.self.inside.pace c.self.inside.greeting (as_nanos c.self.inside.cooldown)
-    (as_nanos c.self.inside.latest) c.self.inside.next c.self.inside.arrivals c.self.inside.answers c.self.inside.links
+    (as_nanos c.self.inside.latest) c.self.inside.next c.self.inside.arrivals c.self.inside.answers c.self.inside.reads c.self.inside.links
     c.self.inside.actions.items c.args.link.0 c.later-self-inside.result c.leave.new.arrivals c.leave.new.answers
     c.give_back.new.self.items (sym (ap is_some c.get.ensures) ∙ sym c.is_some.ensures ∙ c.if-is_some.true)
     (no_earlier _ _ _ c.later-self-inside.ensures) c.leave.ensures.arrivals c.leave.ensures.answers c.give_back.ensures.items)
@@ -35,7 +35,7 @@ returns-in_default g c = end_nothing g.C.Ord.cmp _ c.args.link.0 (as_nanos c.arg
 
 pub end-requires-clause-busy : goal.end-requires-clause-busy
 end-requires-clause-busy g c = busy_here c.self.inside.node c.self.inside.pace c.self.inside.greeting (as_nanos c.self.inside.cooldown)
-    (as_nanos c.self.inside.latest) c.self.inside.next c.self.inside.arrivals c.self.inside.answers c.self.inside.links
+    (as_nanos c.self.inside.latest) c.self.inside.next c.self.inside.arrivals c.self.inside.answers c.self.inside.reads c.self.inside.links
     c.self.inside.actions.items g.met.C.PublicKey.exact c.self.invariant.0 c.in-Some.peer
     (linked_some _ _ c.in-Some.ensures.found)
 
@@ -43,10 +43,10 @@ pub invariant_of-self-2 : goal.invariant_of-self-2
 invariant_of-self-2 g c = (
   goes_on (Happening.Ended c.args.link.0 c.in-Some.peer c.later-self-inside-2.result) _ _ c.self.invariant.0
       (ends_as c.self.inside.node c.self.inside.pace c.self.inside.greeting (as_nanos c.self.inside.cooldown)
-      (as_nanos c.self.inside.latest) c.self.inside.next c.self.inside.arrivals c.self.inside.answers c.self.inside.links
-      c.self.inside.actions.items c.args.link.0 c.in-Some.peer c.later-self-inside-2.result c.end.new.node c.end.new.links
+      (as_nanos c.self.inside.latest) c.self.inside.next c.self.inside.arrivals c.self.inside.answers c.self.inside.reads c.self.inside.links
+      c.self.inside.actions.items c.args.link.0 c.in-Some.peer c.later-self-inside-2.result c.end.new.node c.end-2.new.self c.end.new.links
       c.end.new.actions.items c.in-Some.ensures.found
-      (no_earlier _ _ _ c.later-self-inside-2.ensures) c.end.ensures.made c.end.ensures.links c.end.ensures.count c.end.ensures.said),
+      (no_earlier _ _ _ c.later-self-inside-2.ensures) c.end.ensures.made c.end-2.ensures.reads c.end.ensures.links c.end.ensures.count c.end.ensures.said),
   record {
     actions_fit = (let room = c.end.ensures.room in let fits = c.self.invariant.1.actions_fit in grind (arith));
     answers_fit = c.self.invariant.1.answers_fit;
@@ -58,7 +58,7 @@ returns g c = end_ended g.C.Ord.cmp _ c.args.link.0 (as_nanos c.args.now.steady)
     (sym (ap is_some c.get.ensures) ∙ sym c.is_some.ensures ∙ c.if-is_some.false) c.later-self-inside-2.result
     c.later-self-inside-2.ensures c.in-Some.ensures.found
     (ends_as c.self.inside.node c.self.inside.pace c.self.inside.greeting (as_nanos c.self.inside.cooldown)
-    (as_nanos c.self.inside.latest) c.self.inside.next c.self.inside.arrivals c.self.inside.answers c.self.inside.links
-    c.self.inside.actions.items c.args.link.0 c.in-Some.peer c.later-self-inside-2.result c.end.new.node c.end.new.links
+    (as_nanos c.self.inside.latest) c.self.inside.next c.self.inside.arrivals c.self.inside.answers c.self.inside.reads c.self.inside.links
+    c.self.inside.actions.items c.args.link.0 c.in-Some.peer c.later-self-inside-2.result c.end.new.node c.end-2.new.self c.end.new.links
     c.end.new.actions.items c.in-Some.ensures.found
-    (no_earlier _ _ _ c.later-self-inside-2.ensures) c.end.ensures.made c.end.ensures.links c.end.ensures.count c.end.ensures.said)
+    (no_earlier _ _ _ c.later-self-inside-2.ensures) c.end.ensures.made c.end-2.ensures.reads c.end.ensures.links c.end.ensures.count c.end.ensures.said)

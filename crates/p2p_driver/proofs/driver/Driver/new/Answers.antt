@@ -11,8 +11,8 @@ invariant_of-result g c = (
     history = [];
     stands = stands_new g.C.Ord.cmp (wire_with g.C.PublicKey.verifies g.C.FixedBytes.spelled g.C.Signature.FixedBytes.spelled
         g.C.FixedBytes.SIZE g.C.FixedBytes.value g.C.Signature.FixedBytes.SIZE g.C.Signature.FixedBytes.value) c.args.setup c.in_ok-node.node c.args.pace c.in_ok-greeting.greeting c.new-2.result
-        c.new-3.result c.new-4.result c.new-5.result c.in_ok-node.ensures.stands (search rules) c.new-2.ensures
-        (c.new-3.ensures.kept c.args.pace 0) c.new-4.ensures c.new-5.ensures.items;
+        c.new-3.result c.new-4.result c.new-5.result c.new-6.result c.in_ok-node.ensures.stands (search rules) c.new-2.ensures
+        (c.new-3.ensures.kept c.args.pace 0) c.new-4.ensures c.new-5.ensures c.new-6.ensures.items;
   },
   record { actions_fit = search rules; answers_fit = search rules },
 )
@@ -21,6 +21,6 @@ pub returns : goal.returns
 returns g c = record {
   stands = stands_new g.C.Ord.cmp (wire_with g.C.PublicKey.verifies g.C.FixedBytes.spelled g.C.Signature.FixedBytes.spelled
       g.C.FixedBytes.SIZE g.C.FixedBytes.value g.C.Signature.FixedBytes.SIZE g.C.Signature.FixedBytes.value) c.args.setup c.in_ok-node.node c.args.pace c.in_ok-greeting.greeting c.new-2.result
-      c.new-3.result c.new-4.result c.new-5.result c.in_ok-node.ensures.stands (search rules) c.new-2.ensures
-      (c.new-3.ensures.kept c.args.pace 0) c.new-4.ensures c.new-5.ensures.items;
+      c.new-3.result c.new-4.result c.new-5.result c.new-6.result c.in_ok-node.ensures.stands (search rules) c.new-2.ensures
+      (c.new-3.ensures.kept c.args.pace 0) c.new-4.ensures c.new-5.ensures c.new-6.ensures.items;
 }

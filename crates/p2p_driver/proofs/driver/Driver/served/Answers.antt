@@ -24,7 +24,7 @@ wire_in g = wire_with g.C.PublicKey.verifies g.C.FixedBytes.spelled g.C.Signatur
 pub invariant_of-self : goal.invariant_of-self
 invariant_of-self g c = (
   subst (λ x. DriverStands g.C.Ord.cmp (wire_in g) x) (sym (same_parts c.self.inside.node c.self.inside.node c.self.inside.pace c.self.inside.greeting (as_nanos c.self.inside.cooldown) (as_nanos c.self.inside.latest)
-      c.self.inside.next c.self.inside.arrivals c.self.inside.answers c.self.inside.links c.self.inside.actions.items c.reserve.new.self.items
+      c.self.inside.next c.self.inside.arrivals c.self.inside.answers c.self.inside.reads c.self.inside.links c.self.inside.actions.items c.reserve.new.self.items
       refl (search rules))) c.self.invariant.0,
   record {
     actions_fit = (let same : c.reserve.new.self.room ≡ c.self.inside.actions.room = search rules in let fits = c.self.invariant.1.actions_fit in grind (arith));
@@ -38,32 +38,32 @@ returns-then-is_err g c =
     dropped g.C.Ord.cmp (wire_in g) c.args.link.0 c.args.peer.now c.args.owed c.args.frame.now c.args.now.wall came.Served (as_nanos c.args.now.steady) c.args.self.now _ f
     (served_read g.C.Ord.cmp (wire_in g) c.args.link.0 c.args.peer.now c.args.owed c.args.frame.now c.args.now.wall c.args.self.now f)
     (same_parts c.self.inside.node c.self.inside.node c.self.inside.pace c.self.inside.greeting (as_nanos c.self.inside.cooldown) (as_nanos c.self.inside.latest)
-    c.self.inside.next c.self.inside.arrivals c.self.inside.answers c.self.inside.links c.self.inside.actions.items c.reserve.new.self.items refl (search rules) ∙ c.self.view_is)
+    c.self.inside.next c.self.inside.arrivals c.self.inside.answers c.self.inside.reads c.self.inside.links c.self.inside.actions.items c.reserve.new.self.items refl (search rules) ∙ c.self.view_is)
 
 pub serve-requires : goal.serve-requires
 serve-requires g c = servable_on g.C.Ord.cmp (wire_in g) c.self.inside.node c.self.inside.pace c.self.inside.greeting (as_nanos c.self.inside.cooldown) (as_nanos c.self.inside.latest)
-    c.self.inside.next c.self.inside.arrivals c.self.inside.answers c.self.inside.links c.self.inside.actions.items
+    c.self.inside.next c.self.inside.arrivals c.self.inside.answers c.self.inside.reads c.self.inside.links c.self.inside.actions.items
     c.args.link.0 c.args.peer.now c.args.owed c.args.frame.now c.args.now.wall c.later-time.result (no_earlier _ _ _ c.later-time.ensures) (found_as g.C.Ord.cmp (wire_in g) c.args.link.0 c.args.peer.now c.args.owed c.args.frame.now c.args.now.wall came.Served (came.Served)
     c.args.self.now
     (seen c.self.inside.node c.self.inside.pace c.self.inside.greeting (as_nanos c.self.inside.cooldown) (as_nanos c.self.inside.latest)
-    c.self.inside.next c.self.inside.arrivals c.self.inside.answers c.self.inside.links c.self.inside.actions.items) c.self.view_is refl c.requires)
+    c.self.inside.next c.self.inside.arrivals c.self.inside.answers c.self.inside.reads c.self.inside.links c.self.inside.actions.items) c.self.view_is refl c.requires)
 
 pub invariant_of-self-in-Reply : goal.invariant_of-self-in-Reply
 invariant_of-self-in-Reply g c = (
   goes_on (Happening.Heard c.args.link.0 c.args.peer.now c.later-time.result c.args.owed (OfFrame c.args.frame.now c.args.now.wall) (Outcome.Answers c.in-Reply.frame)) _ _ c.self.invariant.0
       (serves_on g.C.Ord.cmp (wire_in g) c.self.inside.node c.self.inside.pace c.self.inside.greeting (as_nanos c.self.inside.cooldown) (as_nanos c.self.inside.latest)
-      c.self.inside.next c.self.inside.arrivals c.self.inside.answers c.self.inside.links c.self.inside.actions.items
+      c.self.inside.next c.self.inside.arrivals c.self.inside.answers c.self.inside.reads c.self.inside.links c.self.inside.actions.items
       c.args.link.0 c.args.peer.now c.args.owed c.args.frame.now c.args.now.wall c.later-time.result (no_earlier _ _ _ c.later-time.ensures)
       (Outcome.Answers c.in-Reply.frame) c.serve.new.node c.hear.new.self c.push.new.self.items (found_as g.C.Ord.cmp (wire_in g) c.args.link.0 c.args.peer.now c.args.owed c.args.frame.now c.args.now.wall came.Served (came.Served)
       c.args.self.now
       (seen c.self.inside.node c.self.inside.pace c.self.inside.greeting (as_nanos c.self.inside.cooldown) (as_nanos c.self.inside.latest)
-      c.self.inside.next c.self.inside.arrivals c.self.inside.answers c.self.inside.links c.self.inside.actions.items) c.self.view_is refl c.requires)
+      c.self.inside.next c.self.inside.arrivals c.self.inside.answers c.self.inside.reads c.self.inside.links c.self.inside.actions.items) c.self.view_is refl c.requires)
       (λ owed l j shares greets asked comes. (greets, asked, comes)) c.in-Reply.ensures.1 (sym ((found_as g.C.Ord.cmp (wire_in g) c.args.link.0 c.args.peer.now c.args.owed c.args.frame.now c.args.now.wall came.Served (came.Served)
       c.args.self.now
       (seen c.self.inside.node c.self.inside.pace c.self.inside.greeting (as_nanos c.self.inside.cooldown) (as_nanos c.self.inside.latest)
-      c.self.inside.next c.self.inside.arrivals c.self.inside.answers c.self.inside.links c.self.inside.actions.items) c.self.view_is refl c.requires)).owed_is)
+      c.self.inside.next c.self.inside.arrivals c.self.inside.answers c.self.inside.reads c.self.inside.links c.self.inside.actions.items) c.self.view_is refl c.requires)).owed_is)
       (λ given calls at. tt) (unchanged g.C.Ord.cmp c.self.inside.node c.serve.new.node c.in-Reply.ensures.0)
-      (record { links_are = c.hear.ensures.links; count = c.hear.ensures.count; said = said_then c.self.inside.actions.items c.reserve.new.self.items c.push.new.self.items _ (search rules) c.push.ensures.items })),
+      (λ j place. refl) (record { links_are = c.hear.ensures.links; count = c.hear.ensures.count; said = said_then c.self.inside.actions.items c.reserve.new.self.items c.push.new.self.items _ (search rules) c.push.ensures.items })),
   record {
     actions_fit = (let f0 = c.hear.ensures.needs in let f1 = c.reserve.ensures.room in let f2 = c.push.ensures.room in let fits = c.self.invariant.1.actions_fit in grind (arith));
     answers_fit = c.self.invariant.1.answers_fit;
@@ -75,35 +75,35 @@ returns-in-Reply g c = heard_of g.C.Ord.cmp (wire_in g) c.self.view_is c.args.li
     (OfFrame c.args.frame.now c.args.now.wall) (Outcome.Answers c.in-Reply.frame) (λ o. IsAdmitted c.args.frame.now o (admission.Heard heard.Answered))
     c.later-time.ensures refl
     (serves_on g.C.Ord.cmp (wire_in g) c.self.inside.node c.self.inside.pace c.self.inside.greeting (as_nanos c.self.inside.cooldown) (as_nanos c.self.inside.latest)
-    c.self.inside.next c.self.inside.arrivals c.self.inside.answers c.self.inside.links c.self.inside.actions.items
+    c.self.inside.next c.self.inside.arrivals c.self.inside.answers c.self.inside.reads c.self.inside.links c.self.inside.actions.items
     c.args.link.0 c.args.peer.now c.args.owed c.args.frame.now c.args.now.wall c.later-time.result (no_earlier _ _ _ c.later-time.ensures)
     (Outcome.Answers c.in-Reply.frame) c.serve.new.node c.hear.new.self c.push.new.self.items (found_as g.C.Ord.cmp (wire_in g) c.args.link.0 c.args.peer.now c.args.owed c.args.frame.now c.args.now.wall came.Served (came.Served)
     c.args.self.now
     (seen c.self.inside.node c.self.inside.pace c.self.inside.greeting (as_nanos c.self.inside.cooldown) (as_nanos c.self.inside.latest)
-    c.self.inside.next c.self.inside.arrivals c.self.inside.answers c.self.inside.links c.self.inside.actions.items) c.self.view_is refl c.requires)
+    c.self.inside.next c.self.inside.arrivals c.self.inside.answers c.self.inside.reads c.self.inside.links c.self.inside.actions.items) c.self.view_is refl c.requires)
     (λ owed l j shares greets asked comes. (greets, asked, comes)) c.in-Reply.ensures.1 (sym ((found_as g.C.Ord.cmp (wire_in g) c.args.link.0 c.args.peer.now c.args.owed c.args.frame.now c.args.now.wall came.Served (came.Served)
     c.args.self.now
     (seen c.self.inside.node c.self.inside.pace c.self.inside.greeting (as_nanos c.self.inside.cooldown) (as_nanos c.self.inside.latest)
-    c.self.inside.next c.self.inside.arrivals c.self.inside.answers c.self.inside.links c.self.inside.actions.items) c.self.view_is refl c.requires)).owed_is)
+    c.self.inside.next c.self.inside.arrivals c.self.inside.answers c.self.inside.reads c.self.inside.links c.self.inside.actions.items) c.self.view_is refl c.requires)).owed_is)
     (λ given calls at. tt) (unchanged g.C.Ord.cmp c.self.inside.node c.serve.new.node c.in-Reply.ensures.0)
-    (record { links_are = c.hear.ensures.links; count = c.hear.ensures.count; said = said_then c.self.inside.actions.items c.reserve.new.self.items c.push.new.self.items _ (search rules) c.push.ensures.items }))
+    (λ j place. refl) (record { links_are = c.hear.ensures.links; count = c.hear.ensures.count; said = said_then c.self.inside.actions.items c.reserve.new.self.items c.push.new.self.items _ (search rules) c.push.ensures.items }))
 
 pub invariant_of-self-in-Applied : goal.invariant_of-self-in-Applied
 invariant_of-self-in-Applied g c = (
   goes_on (Happening.Heard c.args.link.0 c.args.peer.now c.later-time.result c.args.owed (OfFrame c.args.frame.now c.args.now.wall) (Outcome.Takes [])) _ _ c.self.invariant.0
       (serves_on g.C.Ord.cmp (wire_in g) c.self.inside.node c.self.inside.pace c.self.inside.greeting (as_nanos c.self.inside.cooldown) (as_nanos c.self.inside.latest)
-      c.self.inside.next c.self.inside.arrivals c.self.inside.answers c.self.inside.links c.self.inside.actions.items
+      c.self.inside.next c.self.inside.arrivals c.self.inside.answers c.self.inside.reads c.self.inside.links c.self.inside.actions.items
       c.args.link.0 c.args.peer.now c.args.owed c.args.frame.now c.args.now.wall c.later-time.result (no_earlier _ _ _ c.later-time.ensures)
       (Outcome.Takes []) c.serve.new.node c.hear-in-Applied.new.self c.give_back-in-Applied.new.self.items (found_as g.C.Ord.cmp (wire_in g) c.args.link.0 c.args.peer.now c.args.owed c.args.frame.now c.args.now.wall came.Served (came.Served)
       c.args.self.now
       (seen c.self.inside.node c.self.inside.pace c.self.inside.greeting (as_nanos c.self.inside.cooldown) (as_nanos c.self.inside.latest)
-      c.self.inside.next c.self.inside.arrivals c.self.inside.answers c.self.inside.links c.self.inside.actions.items) c.self.view_is refl c.requires)
+      c.self.inside.next c.self.inside.arrivals c.self.inside.answers c.self.inside.reads c.self.inside.links c.self.inside.actions.items) c.self.view_is refl c.requires)
       (λ owed l j shares greets asked comes. (greets, asked, comes)) c.in-Applied.ensures.1 (sym ((found_as g.C.Ord.cmp (wire_in g) c.args.link.0 c.args.peer.now c.args.owed c.args.frame.now c.args.now.wall came.Served (came.Served)
       c.args.self.now
       (seen c.self.inside.node c.self.inside.pace c.self.inside.greeting (as_nanos c.self.inside.cooldown) (as_nanos c.self.inside.latest)
-      c.self.inside.next c.self.inside.arrivals c.self.inside.answers c.self.inside.links c.self.inside.actions.items) c.self.view_is refl c.requires)).owed_is)
+      c.self.inside.next c.self.inside.arrivals c.self.inside.answers c.self.inside.reads c.self.inside.links c.self.inside.actions.items) c.self.view_is refl c.requires)).owed_is)
       (λ given calls at. tt) c.in-Applied.ensures.0
-      (record { links_are = c.hear-in-Applied.ensures.links; count = c.hear-in-Applied.ensures.count; said = said_none _ _ (search rules) })),
+      (λ j place. refl) (record { links_are = c.hear-in-Applied.ensures.links; count = c.hear-in-Applied.ensures.count; said = said_none _ _ (search rules) })),
   record {
     actions_fit = (let f0 = c.hear-in-Applied.ensures.needs in let f1 = c.reserve.ensures.room in let f2 = c.give_back-in-Applied.ensures.room in let fits = c.self.invariant.1.actions_fit in grind (arith));
     answers_fit = c.self.invariant.1.answers_fit;
@@ -115,37 +115,37 @@ returns-in-Applied g c = heard_of g.C.Ord.cmp (wire_in g) c.self.view_is c.args.
     (OfFrame c.args.frame.now c.args.now.wall) (Outcome.Takes []) (λ o. IsAdmitted c.args.frame.now o (admission.Heard (heard.Applied 0)))
     c.later-time.ensures refl
     (serves_on g.C.Ord.cmp (wire_in g) c.self.inside.node c.self.inside.pace c.self.inside.greeting (as_nanos c.self.inside.cooldown) (as_nanos c.self.inside.latest)
-    c.self.inside.next c.self.inside.arrivals c.self.inside.answers c.self.inside.links c.self.inside.actions.items
+    c.self.inside.next c.self.inside.arrivals c.self.inside.answers c.self.inside.reads c.self.inside.links c.self.inside.actions.items
     c.args.link.0 c.args.peer.now c.args.owed c.args.frame.now c.args.now.wall c.later-time.result (no_earlier _ _ _ c.later-time.ensures)
     (Outcome.Takes []) c.serve.new.node c.hear-in-Applied.new.self c.give_back-in-Applied.new.self.items (found_as g.C.Ord.cmp (wire_in g) c.args.link.0 c.args.peer.now c.args.owed c.args.frame.now c.args.now.wall came.Served (came.Served)
     c.args.self.now
     (seen c.self.inside.node c.self.inside.pace c.self.inside.greeting (as_nanos c.self.inside.cooldown) (as_nanos c.self.inside.latest)
-    c.self.inside.next c.self.inside.arrivals c.self.inside.answers c.self.inside.links c.self.inside.actions.items) c.self.view_is refl c.requires)
+    c.self.inside.next c.self.inside.arrivals c.self.inside.answers c.self.inside.reads c.self.inside.links c.self.inside.actions.items) c.self.view_is refl c.requires)
     (λ owed l j shares greets asked comes. (greets, asked, comes)) c.in-Applied.ensures.1 (sym ((found_as g.C.Ord.cmp (wire_in g) c.args.link.0 c.args.peer.now c.args.owed c.args.frame.now c.args.now.wall came.Served (came.Served)
     c.args.self.now
     (seen c.self.inside.node c.self.inside.pace c.self.inside.greeting (as_nanos c.self.inside.cooldown) (as_nanos c.self.inside.latest)
-    c.self.inside.next c.self.inside.arrivals c.self.inside.answers c.self.inside.links c.self.inside.actions.items) c.self.view_is refl c.requires)).owed_is)
+    c.self.inside.next c.self.inside.arrivals c.self.inside.answers c.self.inside.reads c.self.inside.links c.self.inside.actions.items) c.self.view_is refl c.requires)).owed_is)
     (λ given calls at. tt) c.in-Applied.ensures.0
-    (record { links_are = c.hear-in-Applied.ensures.links; count = c.hear-in-Applied.ensures.count; said = said_none _ _ (search rules) }))
+    (λ j place. refl) (record { links_are = c.hear-in-Applied.ensures.links; count = c.hear-in-Applied.ensures.count; said = said_none _ _ (search rules) }))
 
 pub invariant_of-self-in-Malformed : goal.invariant_of-self-in-Malformed
 invariant_of-self-in-Malformed g c = (
   goes_on (Happening.Heard c.args.link.0 c.args.peer.now c.later-time.result c.args.owed (OfFrame c.args.frame.now c.args.now.wall) (Outcome.Breaks breach.Malformed c.break_off.result)) _ _ c.self.invariant.0
       (serves_on g.C.Ord.cmp (wire_in g) c.self.inside.node c.self.inside.pace c.self.inside.greeting (as_nanos c.self.inside.cooldown) (as_nanos c.self.inside.latest)
-      c.self.inside.next c.self.inside.arrivals c.self.inside.answers c.self.inside.links c.self.inside.actions.items
+      c.self.inside.next c.self.inside.arrivals c.self.inside.answers c.self.inside.reads c.self.inside.links c.self.inside.actions.items
       c.args.link.0 c.args.peer.now c.args.owed c.args.frame.now c.args.now.wall c.later-time.result (no_earlier _ _ _ c.later-time.ensures)
       (Outcome.Breaks breach.Malformed c.break_off.result) c.break_off.new.node c.break_off.new.links c.break_off.new.actions.items (found_as g.C.Ord.cmp (wire_in g) c.args.link.0 c.args.peer.now c.args.owed c.args.frame.now c.args.now.wall came.Served (came.Served)
       c.args.self.now
       (seen c.self.inside.node c.self.inside.pace c.self.inside.greeting (as_nanos c.self.inside.cooldown) (as_nanos c.self.inside.latest)
-      c.self.inside.next c.self.inside.arrivals c.self.inside.answers c.self.inside.links c.self.inside.actions.items) c.self.view_is refl c.requires)
+      c.self.inside.next c.self.inside.arrivals c.self.inside.answers c.self.inside.reads c.self.inside.links c.self.inside.actions.items) c.self.view_is refl c.requires)
       (λ owed l j shares greets asked comes. (greets, asked, comes)) (c.in-Malformed.ensures.1 c.break_off.result) (sym ((found_as g.C.Ord.cmp (wire_in g) c.args.link.0 c.args.peer.now c.args.owed c.args.frame.now c.args.now.wall came.Served (came.Served)
       c.args.self.now
       (seen c.self.inside.node c.self.inside.pace c.self.inside.greeting (as_nanos c.self.inside.cooldown) (as_nanos c.self.inside.latest)
-      c.self.inside.next c.self.inside.arrivals c.self.inside.answers c.self.inside.links c.self.inside.actions.items) c.self.view_is refl c.requires)).owed_is)
+      c.self.inside.next c.self.inside.arrivals c.self.inside.answers c.self.inside.reads c.self.inside.links c.self.inside.actions.items) c.self.view_is refl c.requires)).owed_is)
       (blocked_done g.C.Ord.cmp (wire_in g) c.self.inside.node c.args.peer.now c.later-time.result breach.Malformed c.break_off.result
       (blocks_from g.C.Ord.cmp c.serve.new.node c.self.inside.node c.args.peer.now (as_nanos c.later-time.result) c.break_off.result c.in-Malformed.ensures.0 c.break_off.ensures.taken))
       (makes_from g.C.Ord.cmp c.serve.new.node c.self.inside.node c.break_off.new.node c.args.peer.now c.later-time.result (Outcome.Breaks breach.Malformed c.break_off.result) c.in-Malformed.ensures.0 c.break_off.ensures.made)
-      (follows_from (search rules) (c.break_off.ensures.follows c.args.link.0 c.args.owed))),
+      (λ j place. refl) (follows_from (search rules) (c.break_off.ensures.follows c.args.link.0 c.args.owed))),
   record {
     actions_fit = (let f0 = c.break_off.ensures.room in let f1 = c.reserve.ensures.room in let f2 = c.give_back-in-Malformed.ensures.room in let fits = c.self.invariant.1.actions_fit in grind (arith));
     answers_fit = c.self.invariant.1.answers_fit;
@@ -157,25 +157,25 @@ returns-in-Malformed g c = heard_of g.C.Ord.cmp (wire_in g) c.self.view_is c.arg
     (OfFrame c.args.frame.now c.args.now.wall) (Outcome.Breaks breach.Malformed c.break_off.result) (λ o. IsAdmitted c.args.frame.now o (admission.Heard (heard.Closing (why.Breach breach.Malformed))))
     c.later-time.ensures refl
     (serves_on g.C.Ord.cmp (wire_in g) c.self.inside.node c.self.inside.pace c.self.inside.greeting (as_nanos c.self.inside.cooldown) (as_nanos c.self.inside.latest)
-    c.self.inside.next c.self.inside.arrivals c.self.inside.answers c.self.inside.links c.self.inside.actions.items
+    c.self.inside.next c.self.inside.arrivals c.self.inside.answers c.self.inside.reads c.self.inside.links c.self.inside.actions.items
     c.args.link.0 c.args.peer.now c.args.owed c.args.frame.now c.args.now.wall c.later-time.result (no_earlier _ _ _ c.later-time.ensures)
     (Outcome.Breaks breach.Malformed c.break_off.result) c.break_off.new.node c.break_off.new.links c.break_off.new.actions.items (found_as g.C.Ord.cmp (wire_in g) c.args.link.0 c.args.peer.now c.args.owed c.args.frame.now c.args.now.wall came.Served (came.Served)
     c.args.self.now
     (seen c.self.inside.node c.self.inside.pace c.self.inside.greeting (as_nanos c.self.inside.cooldown) (as_nanos c.self.inside.latest)
-    c.self.inside.next c.self.inside.arrivals c.self.inside.answers c.self.inside.links c.self.inside.actions.items) c.self.view_is refl c.requires)
+    c.self.inside.next c.self.inside.arrivals c.self.inside.answers c.self.inside.reads c.self.inside.links c.self.inside.actions.items) c.self.view_is refl c.requires)
     (λ owed l j shares greets asked comes. (greets, asked, comes)) (c.in-Malformed.ensures.1 c.break_off.result) (sym ((found_as g.C.Ord.cmp (wire_in g) c.args.link.0 c.args.peer.now c.args.owed c.args.frame.now c.args.now.wall came.Served (came.Served)
     c.args.self.now
     (seen c.self.inside.node c.self.inside.pace c.self.inside.greeting (as_nanos c.self.inside.cooldown) (as_nanos c.self.inside.latest)
-    c.self.inside.next c.self.inside.arrivals c.self.inside.answers c.self.inside.links c.self.inside.actions.items) c.self.view_is refl c.requires)).owed_is)
+    c.self.inside.next c.self.inside.arrivals c.self.inside.answers c.self.inside.reads c.self.inside.links c.self.inside.actions.items) c.self.view_is refl c.requires)).owed_is)
     (blocked_done g.C.Ord.cmp (wire_in g) c.self.inside.node c.args.peer.now c.later-time.result breach.Malformed c.break_off.result
     (blocks_from g.C.Ord.cmp c.serve.new.node c.self.inside.node c.args.peer.now (as_nanos c.later-time.result) c.break_off.result c.in-Malformed.ensures.0 c.break_off.ensures.taken))
     (makes_from g.C.Ord.cmp c.serve.new.node c.self.inside.node c.break_off.new.node c.args.peer.now c.later-time.result (Outcome.Breaks breach.Malformed c.break_off.result) c.in-Malformed.ensures.0 c.break_off.ensures.made)
-    (follows_from (search rules) (c.break_off.ensures.follows c.args.link.0 c.args.owed)))
+    (λ j place. refl) (follows_from (search rules) (c.break_off.ensures.follows c.args.link.0 c.args.owed)))
 
 pub invariant_of-self-in-Memory : goal.invariant_of-self-in-Memory
 invariant_of-self-in-Memory g c = (
   subst (λ x. DriverStands g.C.Ord.cmp (wire_in g) x) (sym (same_parts c.self.inside.node c.serve.new.node c.self.inside.pace c.self.inside.greeting (as_nanos c.self.inside.cooldown) (as_nanos c.self.inside.latest)
-      c.self.inside.next c.self.inside.arrivals c.self.inside.answers c.self.inside.links c.self.inside.actions.items c.give_back.new.self.items
+      c.self.inside.next c.self.inside.arrivals c.self.inside.answers c.self.inside.reads c.self.inside.links c.self.inside.actions.items c.give_back.new.self.items
       c.in-Memory.ensures (search rules))) c.self.invariant.0,
   record {
     actions_fit = (let f0 = c.reserve.ensures.room in let f1 = c.give_back.ensures.room in let fits = c.self.invariant.1.actions_fit in grind (arith));
@@ -189,4 +189,4 @@ returns-in-Memory g c =
     dropped g.C.Ord.cmp (wire_in g) c.args.link.0 c.args.peer.now c.args.owed c.args.frame.now c.args.now.wall came.Served (as_nanos c.args.now.steady) c.args.self.now _ f
     (served_read g.C.Ord.cmp (wire_in g) c.args.link.0 c.args.peer.now c.args.owed c.args.frame.now c.args.now.wall c.args.self.now f)
     (same_parts c.self.inside.node c.serve.new.node c.self.inside.pace c.self.inside.greeting (as_nanos c.self.inside.cooldown) (as_nanos c.self.inside.latest)
-    c.self.inside.next c.self.inside.arrivals c.self.inside.answers c.self.inside.links c.self.inside.actions.items c.give_back.new.self.items c.in-Memory.ensures (search rules) ∙ c.self.view_is)
+    c.self.inside.next c.self.inside.arrivals c.self.inside.answers c.self.inside.reads c.self.inside.links c.self.inside.actions.items c.give_back.new.self.items c.in-Memory.ensures (search rules) ∙ c.self.view_is)

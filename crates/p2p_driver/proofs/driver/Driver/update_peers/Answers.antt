@@ -16,7 +16,7 @@ wire_in g = wire_with g.C.PublicKey.verifies g.C.FixedBytes.spelled g.C.Signatur
 pub invariant_of-self : goal.invariant_of-self
 invariant_of-self g c = let d = c.self.inside in (
   goes_on (Happening.Given c.args.infos.items c.later-self-inside.result) _ _ c.self.invariant.0
-      (gives g.C.Ord.cmp (wire_in g) d.node d.pace d.greeting (as_nanos d.cooldown) (as_nanos d.latest) d.next d.arrivals d.answers d.links d.actions.items
+      (gives g.C.Ord.cmp (wire_in g) d.node d.pace d.greeting (as_nanos d.cooldown) (as_nanos d.latest) d.next d.arrivals d.answers d.reads d.links d.actions.items
       c.args.infos.items c.later-self-inside.result c.update.new.node
       (no_earlier (as_nanos d.latest) (as_nanos c.args.now.steady) (as_nanos c.later-self-inside.result) c.later-self-inside.ensures)
       c.update.ensures),
@@ -26,11 +26,11 @@ invariant_of-self g c = let d = c.self.inside in (
 pub returns : goal.returns
 returns g c = let d = c.self.inside in
     subst (λ v. DoesAt g.C.Ord.cmp (wire_in g) (as_nanos c.args.now.steady) (Happening.Given c.args.infos.items) v
-    (seen c.update.new.node d.pace d.greeting (as_nanos d.cooldown) (as_nanos c.later-self-inside.result) d.next d.arrivals d.answers d.links d.actions.items))
+    (seen c.update.new.node d.pace d.greeting (as_nanos d.cooldown) (as_nanos c.later-self-inside.result) d.next d.arrivals d.answers d.reads d.links d.actions.items))
     c.self.view_is (
       c.later-self-inside.result,
       c.later-self-inside.ensures,
-      (gives g.C.Ord.cmp (wire_in g) d.node d.pace d.greeting (as_nanos d.cooldown) (as_nanos d.latest) d.next d.arrivals d.answers d.links d.actions.items
+      (gives g.C.Ord.cmp (wire_in g) d.node d.pace d.greeting (as_nanos d.cooldown) (as_nanos d.latest) d.next d.arrivals d.answers d.reads d.links d.actions.items
           c.args.infos.items c.later-self-inside.result c.update.new.node
           (no_earlier (as_nanos d.latest) (as_nanos c.args.now.steady) (as_nanos c.later-self-inside.result) c.later-self-inside.ensures)
           c.update.ensures),
