@@ -65,7 +65,8 @@ pub(crate) fn tracked(alloc: Global, keys: &[Key32]) -> Result<TrackedPeers<Key3
     Ok(TrackedPeers::new(primary, secondary))
 }
 
-fn setup(
+/// Makes, for timing, the setup of a node of this number, which accepts so many infos at a time.
+pub(crate) fn setup(
     alloc: Global,
     number: u64,
     dial_fail_limit: usize,

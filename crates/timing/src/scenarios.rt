@@ -1,10 +1,12 @@
 //! Single measurements, each by a word.
 
+mod drivers;
 mod hour;
 mod nodes;
 mod runs;
 mod wire;
 
+use crate::scenarios::drivers::{Passing, passings};
 use crate::scenarios::hour::hours;
 use crate::scenarios::nodes::{Call, of_nodes};
 use crate::scenarios::runs::{Kind, runs};
@@ -12,7 +14,7 @@ use crate::scenarios::wire::{Way, bits, infos, ingresses, judgements, peers};
 use crate::stop::Stop;
 use crate::times::Times;
 
-const NAMES: [&str; 22] = [
+const NAMES: [&str; 25] = [
     "encode",
     "decode",
     "encode_names",
@@ -35,6 +37,9 @@ const NAMES: [&str; 22] = [
     "run_cycles",
     "whole_run",
     "day",
+    "driver_idle",
+    "driver_asks",
+    "asks_by_hand",
 ];
 
 fn of_bytes(rt: &HostRuntime, name: &str, count: usize, samples: usize) -> Result<Times, Stop> {
@@ -67,6 +72,9 @@ fn of_calls(rt: &HostRuntime, name: &str, count: usize, samples: usize) -> Resul
         "run_cycles" => runs(rt, count, samples, Kind::Cycles),
         "whole_run" => runs(rt, count, samples, Kind::Whole),
         "day" => hours(rt, count, samples),
+        "driver_idle" => passings(rt, count, samples, Passing::Idle),
+        "driver_asks" => passings(rt, count, samples, Passing::Asks),
+        "asks_by_hand" => passings(rt, count, samples, Passing::ByHand),
         _ => Err(Stop::Words),
     }
 }
