@@ -21,14 +21,14 @@ use Rattle.p2p_driver.specs.declared.links.Phase.{Phase}
 use Rattle.p2p_driver.specs.declared.links.Phase.TheVariants as phase
 use Rattle.p2p_driver.specs.declared.links.Waiting.{Waiting}
 use Rattle.p2p_driver.specs.Frames.{Cause, Outcome, IsOutcome, Spells, begins_with, is_empty_list, owed_after}
-use Rattle.p2p_driver.specs.Happenings.{Happening, calls_of, opened_by, ends_by, link_since, heard_as}
+use Rattle.p2p_driver.specs.Happenings.{Happening, calls_of, opened_by, ends_by, link_since, heard_as, said_with}
 use Rattle.p2p_driver.specs.Laws.{since_of, since_began, is_asked, is_for_set, is_list, asks_by, lists_by, asked_on, lists_on}
-use Rattle.p2p_driver.specs.Links.{link_with, asking, closed}
+use Rattle.p2p_driver.specs.Links.{link_with, asking, saying, writing, closed}
 use Rattle.p2p_driver.specs.Questions.{asked_after, owed_with}
 use Rattle.p2p_driver.specs.declared.questions.Question.{Question}
 use Rattle.p2p_driver.specs.Drivers.{Base, AreRight, IsHeard, IsAsked, link, standing}
 use Rattle.p2p_driver.proofs.Beginnings.{Begins, not_both, the_empty}
-use Rattle.p2p_driver.proofs.LinkHistory.{touch_by, untouched, closing_if, link_after, link_stays, link_later, link_opens, link_hears, link_asks, ended_link, closed_link}
+use Rattle.p2p_driver.proofs.LinkHistory.{touch_by, untouched, closing_if, link_after, link_stays, link_later, link_opens, link_hears, link_asks, link_writes, link_speaks, ended_link, closed_link}
 use Rattle.p2p_driver.proofs.Standing.{one_more}
 
 -- so many lists were admitted and so many questions asked, on a link that there may be
@@ -48,6 +48,16 @@ closes : (x : Bool) (l a : ℕ) (o : Option Held) → Few l a o → Few l a (if 
 closes true l a None is = is
 closes true l a (Some held) is = is
 closes false l a o is = is
+
+writes : (x : Bool) (l a : ℕ) (o : Option Held) → Few l a o → Few l a (if x then option_map writing o else o)
+writes true l a None is = is
+writes true l a (Some held) is = is
+writes false l a o is = is
+
+speaks : (x : Bool) (t : Duration) (l a : ℕ) (o : Option Held) → Few l a o → Few l a (if x then option_map (saying (Some t)) o else o)
+speaks true t l a None is = is
+speaks true t l a (Some held) is = is
+speaks false t l a o is = is
 
 ended : (x : Bool) (l a : ℕ) (o : Option Held) → Few l a o → Few l a (if x then None else o)
 ended true l a o is = few l a o is
@@ -243,37 +253,37 @@ module _ {C S : Type 0} (b : Base C S) (reading : Begins b.wire) where
             (link_hears d p q n t owed c x h ∙ ap (λ y. if y then option_map (heard_as t owed x) (link b p h) else link b p h) is) few
 
     -- a question was due
-    asks : (n : ℕ) (p : C) (t : Duration) (owed : ℕ) (question : Option Question) (h : List (Happening C S)) →
-        IsSomeAnd (link b p h) (IsAsked b h n p t owed question) → same d p p ≡ true → Asked p h →
-        Asked p (Happening.Asked n p t owed question ∷ h)
-    asks n p t owed question h right is few = go (link b p h) refl right few
+    asks : (n : ℕ) (p : C) (t : Duration) (owed : ℕ) (fits : Bool) (question : Option Question) (h : List (Happening C S)) →
+        IsSomeAnd (link b p h) (IsAsked b h n p t owed fits question) → same d p p ≡ true → Asked p h →
+        Asked p (Happening.Asked n p t owed fits question ∷ h)
+    asks n p t owed fits question h right is few = go (link b p h) refl right few
       where
         e : Happening C S
-        e = Happening.Asked n p t owed question
+        e = Happening.Asked n p t owed fits question
 
-        go : (o : Option Held) → link b p h ≡ o → IsSomeAnd o (IsAsked b h n p t owed question) →
+        go : (o : Option Held) → link b p h ≡ o → IsSomeAnd o (IsAsked b h n p t owed fits question) →
             Few (lists_on d p h) (asked_on d p h) o → Asked p (e ∷ h)
         go None at right few = absurd right
         go (Some held) at right few = few_at _ _ _ _ _ _
             (more (lists_by d p) p e h false refl refl (ap is_some at))
             (more (asks_by d p) p e h (is_for_set question) refl (ap (λ y. y && is_for_set question) is) (ap is_some at))
-            (link_asks d p p n t owed question h
-            ∙ ap (λ y. if y then option_map (λ x. asking owed (asked_after t question x.asked) x) (link b p h) else link b p h) is
-            ∙ ap (option_map (λ x. asking owed (asked_after t question x.asked) x)) at)
+            (link_asks d p p n t owed fits question h
+            ∙ ap (λ y. if y then option_map (λ x. saying (said_with t question) (asking owed (asked_after t question x.asked) x)) (link b p h) else link b p h) is
+            ∙ ap (option_map (λ x. saying (said_with t question) (asking owed (asked_after t question x.asked) x))) at)
             (let now = owed_up_to question b.pace.owed held.owed in let owes = right.owes in omega (arith, now, owes, few))
 
-    tried : (n : ℕ) (q : C) (t : Duration) (owed : ℕ) (question : Option Question) (h : List (Happening C S)) (p : C) →
-        IsSomeAnd (link b q h) (IsAsked b h n q t owed question) → Asked p h → Asked p (Happening.Asked n q t owed question ∷ h)
-    tried n q t owed question h p right few = go (same d q p) refl
+    tried : (n : ℕ) (q : C) (t : Duration) (owed : ℕ) (fits : Bool) (question : Option Question) (h : List (Happening C S)) (p : C) →
+        IsSomeAnd (link b q h) (IsAsked b h n q t owed fits question) → Asked p h → Asked p (Happening.Asked n q t owed fits question ∷ h)
+    tried n q t owed fits question h p right few = go (same d q p) refl
       where
-        go : (y : Bool) → same d q p ≡ y → Asked p (Happening.Asked n q t owed question ∷ h)
+        go : (y : Bool) → same d q p ≡ y → Asked p (Happening.Asked n q t owed fits question ∷ h)
         go true is = let at = tells_apart exact q p is in
-            subst (λ r. Asked p (Happening.Asked n r t owed question ∷ h)) (sym at)
-            (asks n p t owed question h (subst (λ r. IsSomeAnd (link b r h) (IsAsked b h n r t owed question)) at right)
+            subst (λ r. Asked p (Happening.Asked n r t owed fits question ∷ h)) (sym at)
+            (asks n p t owed fits question h (subst (λ r. IsSomeAnd (link b r h) (IsAsked b h n r t owed fits question)) at right)
             (subst (λ r. same d r p ≡ true) at is) few)
-        go false is = keeps (Happening.Asked n q t owed question) h p (link b p h) refl refl (ap (λ y. y && is_for_set question) is)
-            (link_asks d p q n t owed question h
-            ∙ ap (λ y. if y then option_map (λ x. asking owed (asked_after t question x.asked) x) (link b p h) else link b p h) is) few
+        go false is = keeps (Happening.Asked n q t owed fits question) h p (link b p h) refl refl (ap (λ y. y && is_for_set question) is)
+            (link_asks d p q n t owed fits question h
+            ∙ ap (λ y. if y then option_map (λ x. saying (said_with t question) (asking owed (asked_after t question x.asked) x)) (link b p h) else link b p h) is) few
 
     all_asked : (h : List (Happening C S)) → AreRight b h → (p : C) → Asked p h
     all_asked [] right p = omega arith
@@ -300,8 +310,15 @@ module _ {C S : Type 0} (b : Base C S) (reading : Begins b.wire) where
         stays (Happening.StreamLate n t) h p refl refl refl refl refl (all_asked h right.2 p)
     all_asked (Happening.LinkLate n q t ∷ h) right p =
         closed_by (Happening.LinkLate n q t) h p (same d q p) refl refl refl refl refl (all_asked h right.2 p)
+    all_asked (Happening.Written n q t ∷ h) right p =
+        keeps (Happening.Written n q t) h p (if same d q p then option_map writing (link b p h) else link b p h) refl refl refl (link_writes d p q n t h)
+        (writes (same d q p) (lists_on d p h) (asked_on d p h) (link b p h) (all_asked h right.2 p))
+    all_asked (Happening.Spoken n q t place ∷ h) right p =
+        keeps (Happening.Spoken n q t place) h p (if same d q p then option_map (saying (Some t)) (link b p h) else link b p h) refl refl refl
+        (link_speaks d p q n t place h)
+        (speaks (same d q p) t (lists_on d p h) (asked_on d p h) (link b p h) (all_asked h right.2 p))
     all_asked (Happening.Heard n q t owed c x ∷ h) right p = heard n q t owed c x h p right.0 (all_asked h right.2 p)
-    all_asked (Happening.Asked n q t owed question ∷ h) right p = tried n q t owed question h p right.0 (all_asked h right.2 p)
+    all_asked (Happening.Asked n q t owed fits question ∷ h) right p = tried n q t owed fits question h p right.0 (all_asked h right.2 p)
     all_asked (Happening.Given infos t ∷ h) right p =
         stays (Happening.Given infos t) h p refl refl refl refl refl (all_asked h right.2 p)
     all_asked (Happening.Barred q t taken ∷ h) right p =

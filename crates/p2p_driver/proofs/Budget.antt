@@ -73,8 +73,10 @@ module _ {C S : Type 0} (b : Base C S) where
   few (Happening.StaleSetCame index primary secondary ∷ h) right = still_few (Happening.StaleSetCame index primary secondary) h refl (few h right.2)
   few (Happening.StreamLate n t ∷ h) right = still_few (Happening.StreamLate n t) h refl (few h right.2)
   few (Happening.LinkLate n q t ∷ h) right = still_few (Happening.LinkLate n q t) h refl (few h right.2)
+  few (Happening.Written n q t ∷ h) right = still_few (Happening.Written n q t) h refl (few h right.2)
+  few (Happening.Spoken n q t place ∷ h) right = still_few (Happening.Spoken n q t place) h refl (few h right.2)
   few (Happening.Heard n q t owed cause outcome ∷ h) right = still_few (Happening.Heard n q t owed cause outcome) h refl (few h right.2)
-  few (Happening.Asked n q t owed question ∷ h) right = still_few (Happening.Asked n q t owed question) h refl (few h right.2)
+  few (Happening.Asked n q t owed fits question ∷ h) right = still_few (Happening.Asked n q t owed fits question) h refl (few h right.2)
   few (Happening.Given infos t ∷ h) right = still_few (Happening.Given infos t) h refl (few h right.2)
   few (Happening.Barred q t taken ∷ h) right = still_few (Happening.Barred q t taken) h refl (few h right.2)
   few (Happening.Parted q t ∷ h) right = still_few (Happening.Parted q t) h refl (few h right.2)
@@ -251,11 +253,17 @@ module _ {C S : Type 0} (b : Base C S) where
   streams_of (Happening.LinkLate n q t ∷ h) right = let few = streams_of h right.2 in
       let e : Happening C S = Happening.LinkLate n q t in
       stay e h few (streams_stay e h few.streams refl (λ j. refl) (λ j. refl) (λ j. refl) few.are)
+  streams_of (Happening.Written n q t ∷ h) right = let few = streams_of h right.2 in
+      let e : Happening C S = Happening.Written n q t in
+      stay e h few (streams_stay e h few.streams refl (λ j. refl) (λ j. refl) (λ j. refl) few.are)
+  streams_of (Happening.Spoken n q t place ∷ h) right = let few = streams_of h right.2 in
+      let e : Happening C S = Happening.Spoken n q t place in
+      stay e h few (streams_stay e h few.streams refl (λ j. refl) (λ j. refl) (λ j. refl) few.are)
   streams_of (Happening.Heard n q t owed cause outcome ∷ h) right = let few = streams_of h right.2 in
       let e : Happening C S = Happening.Heard n q t owed cause outcome in
       stay e h few (streams_stay e h few.streams refl (λ j. refl) (λ j. refl) (λ j. refl) few.are)
-  streams_of (Happening.Asked n q t owed question ∷ h) right = let few = streams_of h right.2 in
-      let e : Happening C S = Happening.Asked n q t owed question in
+  streams_of (Happening.Asked n q t owed fits question ∷ h) right = let few = streams_of h right.2 in
+      let e : Happening C S = Happening.Asked n q t owed fits question in
       stay e h few (streams_stay e h few.streams refl (λ j. refl) (λ j. refl) (λ j. refl) few.are)
   streams_of (Happening.Given infos t ∷ h) right = let few = streams_of h right.2 in
       let e : Happening C S = Happening.Given infos t in

@@ -126,11 +126,15 @@ module _ {C S : Type 0} (b : Base C S) where
         kept (Happening.StreamLate n t) h p refl refl ∙ linked_is_busy h right.2 p
     linked_is_busy (Happening.LinkLate n q t ∷ h) right p =
         kept (Happening.LinkLate n q t) h p refl refl ∙ linked_is_busy h right.2 p
+    linked_is_busy (Happening.Written n q t ∷ h) right p =
+        kept (Happening.Written n q t) h p refl refl ∙ linked_is_busy h right.2 p
+    linked_is_busy (Happening.Spoken n q t place ∷ h) right p =
+        kept (Happening.Spoken n q t place) h p refl refl ∙ linked_is_busy h right.2 p
     linked_is_busy (Happening.Heard n q t owed cause outcome ∷ h) right p =
         kept (Happening.Heard n q t owed cause outcome) h p refl refl ∙ linked_is_busy h right.2 p
         ∙ sym (called_for (calls_of h) q t outcome p)
-    linked_is_busy (Happening.Asked n q t owed question ∷ h) right p =
-        kept (Happening.Asked n q t owed question) h p refl refl ∙ linked_is_busy h right.2 p
+    linked_is_busy (Happening.Asked n q t owed fits question ∷ h) right p =
+        kept (Happening.Asked n q t owed fits question) h p refl refl ∙ linked_is_busy h right.2 p
     linked_is_busy (Happening.Given infos t ∷ h) right p =
         kept (Happening.Given infos t) h p refl refl ∙ linked_is_busy h right.2 p
         ∙ sym (called (calls_of h) (Update infos) p)

@@ -382,8 +382,10 @@ module _ {C S : Type 0} where
         absurd (not_this (Track index primary secondary) (λ is. cc) is)
     call_by (Happening.StreamLate n t) is = absurd (nothing_in call is)
     call_by (Happening.LinkLate n q t) is = absurd (nothing_in call is)
+    call_by (Happening.Written n q t) is = absurd (nothing_in call is)
+    call_by (Happening.Spoken n q t place) is = absurd (nothing_in call is)
     call_by (Happening.Heard n q t owed c x) is = heard_calls n q t owed c x is
-    call_by (Happening.Asked n q t owed question) is = absurd (nothing_in call is)
+    call_by (Happening.Asked n q t owed fits question) is = absurd (nothing_in call is)
     call_by (Happening.Given infos t) is = absurd (not_this (Update infos) (λ is. cc) is)
     call_by (Happening.Barred q t taken) is = same_block q p (as_nanos t) now (only_one call (Block q (as_nanos t)) is)
     call_by (Happening.Parted q t) is = absurd (nothing_in call is)

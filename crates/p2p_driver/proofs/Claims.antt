@@ -68,8 +68,10 @@ module _ {C S : Type 0} (b : Base C S) where
       other (Happening.StaleSetCame index primary secondary) h refl right.1 (none_after h right.2)
   none_after (Happening.StreamLate n t ∷ h) right = other (Happening.StreamLate n t) h refl right.1 (none_after h right.2)
   none_after (Happening.LinkLate n q t ∷ h) right = other (Happening.LinkLate n q t) h refl right.1 (none_after h right.2)
+  none_after (Happening.Written n q t ∷ h) right = other (Happening.Written n q t) h refl right.1 (none_after h right.2)
+  none_after (Happening.Spoken n q t place ∷ h) right = other (Happening.Spoken n q t place) h refl right.1 (none_after h right.2)
   none_after (Happening.Heard n q t owed cause outcome ∷ h) right = other (Happening.Heard n q t owed cause outcome) h refl right.1 (none_after h right.2)
-  none_after (Happening.Asked n q t owed question ∷ h) right = other (Happening.Asked n q t owed question) h refl right.1 (none_after h right.2)
+  none_after (Happening.Asked n q t owed fits question ∷ h) right = other (Happening.Asked n q t owed fits question) h refl right.1 (none_after h right.2)
   none_after (Happening.Given infos t ∷ h) right = other (Happening.Given infos t) h refl right.1 (none_after h right.2)
   none_after (Happening.Barred q t taken ∷ h) right = other (Happening.Barred q t taken) h refl right.1 (none_after h right.2)
   none_after (Happening.Parted q t ∷ h) right = other (Happening.Parted q t) h refl right.1 (none_after h right.2)
@@ -91,8 +93,10 @@ module _ {C S : Type 0} (b : Base C S) where
   are_answered (Happening.StaleSetCame index primary secondary ∷ h) right = are_answered h right.2
   are_answered (Happening.StreamLate n t ∷ h) right = are_answered h right.2
   are_answered (Happening.LinkLate n q t ∷ h) right = are_answered h right.2
+  are_answered (Happening.Written n q t ∷ h) right = are_answered h right.2
+  are_answered (Happening.Spoken n q t place ∷ h) right = are_answered h right.2
   are_answered (Happening.Heard n q t owed cause outcome ∷ h) right = are_answered h right.2
-  are_answered (Happening.Asked n q t owed question ∷ h) right = are_answered h right.2
+  are_answered (Happening.Asked n q t owed fits question ∷ h) right = are_answered h right.2
   are_answered (Happening.Given infos t ∷ h) right = are_answered h right.2
   are_answered (Happening.Barred q t taken ∷ h) right = are_answered h right.2
   are_answered (Happening.Parted q t ∷ h) right = are_answered h right.2

@@ -107,8 +107,10 @@ module _ {C S : Type 0} (s : Settings C S) where
   cut h (Happening.StaleSetCame index primary secondary) p w is = absurd cc
   cut h (Happening.StreamLate n t) p w is = absurd cc
   cut h (Happening.LinkLate n q t) p w is = absurd cc
+  cut h (Happening.Written n q t) p w is = absurd cc
+  cut h (Happening.Spoken n q t place) p w is = absurd cc
   cut h (Happening.Heard n q t owed cause outcome) p w is = heard_cut n q t owed cause outcome h p w is
-  cut h (Happening.Asked n q t owed question) p w is = absurd cc
+  cut h (Happening.Asked n q t owed fits question) p w is = absurd cc
   cut h (Happening.Given infos t) p w is = absurd cc
   cut h (Happening.Barred q t taken) p w is = link_later s p (Happening.Barred q t taken) h refl
       ∙ closed_by (same s q p) (link_at s p h) (told (same s q p) why.Blocked w is).0
@@ -158,8 +160,10 @@ module _ {C S : Type 0} (s : Settings C S) where
     cut_said (Happening.StaleSetCame index primary secondary) w is = absurd cc
     cut_said (Happening.StreamLate n t) w is = absurd cc
     cut_said (Happening.LinkLate n q t) w is = absurd cc
+    cut_said (Happening.Written n q t) w is = absurd cc
+    cut_said (Happening.Spoken n q t place) w is = absurd cc
     cut_said (Happening.Heard n q t owed cause outcome) w is = heard_said n q t owed cause outcome w is
-    cut_said (Happening.Asked n q t owed question) w is = absurd cc
+    cut_said (Happening.Asked n q t owed fits question) w is = absurd cc
     cut_said (Happening.Given infos t) w is = absurd cc
     cut_said (Happening.Barred q t taken) w is = shut_said q why.Blocked w is
     cut_said (Happening.Parted q t) w is = shut_said q why.Application w is

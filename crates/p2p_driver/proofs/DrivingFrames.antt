@@ -20,9 +20,9 @@ use Rattle.p2p_driver.specs.Answers.{AnswersView}
 use Rattle.p2p_driver.specs.Drivers.{DriverView, DriverStandsAt, IsHeard, Does, seen, base_of}
 use Rattle.p2p_driver.specs.Frames.{Cause, Outcome, Shares, IsOutcome, ComesFirst, ComesNext, ComesOf, ComesOfVerdicts, owed_after, is_greeting_frame, is_unasked}
 use Rattle.p2p_driver.specs.Frames.Cause.{OfFrame, OfVerdicts}
-use Rattle.p2p_driver.specs.Happenings.{Happening, calls_of}
+use Rattle.p2p_driver.specs.Happenings.{Happening, calls_of, said_as}
 use Rattle.p2p_driver.specs.Hearing.{Follows, IsServed, IsMessage, IsServable, TellsNext}
-use Rattle.p2p_driver.specs.Links.{link_of, hearing, is_expected, is_unexpected, is_timed}
+use Rattle.p2p_driver.specs.Links.{link_of, hearing, saying, has_room, has_room_at, is_expected, is_unexpected, is_timed}
 use Rattle.p2p_driver.specs.Meters.{MetersView}
 use Rattle.p2p_driver.specs.Reading.{read_by, AreMetered, IsPaced}
 use Rattle.p2p_driver.specs.Steps.{MakesFor, IsDone, IsBlock, IsBlocked}
@@ -116,9 +116,10 @@ module _ {C S : Type 0} (cmp : C → C → Ordering) (wire : Wire C S) (node : N
       Paces n t held cause outcome → owed ≡ owed_after held.phase outcome pace.owed held.owed →
       AtEach cmp node (λ m calls. IsDone wire m pace.refresh held.asked calls p t outcome) → MakesFor cmp p t outcome node node2 →
       ReadsAre (Happening.Heard n p t owed cause outcome) t reads2 → Follows cmp n p t owed outcome links links2 actions actions2 →
+      IfSome (said_as t outcome) (λ at. has_room pace.queue held ≡ true) →
       Does cmp wire (Happening.Heard n p t owed cause outcome) v
       (seen node2 pace greeting cooldown (as_nanos t) next arrivals answers reads2 links2 actions2)
-  hears_as n p held t owed cause outcome node2 reads2 links2 actions2 linked number after comes paced owes done made metered follows = record {
+  hears_as n p held t owed cause outcome node2 reads2 links2 actions2 linked number after comes paced owes done made metered follows room = record {
     goes = λ given pace2 h at.
         let b = base_of cmp wire given pace2 in
         let stood = slotted at.node in
@@ -131,6 +132,7 @@ module _ {C S : Type 0} (cmp : C → C → Ordering) (wire : Wire C S) (node : N
           owes = subst (λ q. owed ≡ owed_after held.phase outcome q.owed held.owed) at.pace owes;
           done = subst (λ (q : Pace). IsDone wire b.made q.refresh held.asked (calls_of h) p t outcome) at.pace (done given (calls_of h) stood);
           paced = paced given pace2 h at;
+          room = subst (λ (q : Pace). IfSome (said_as t outcome) (λ at. has_room q.queue held ≡ true)) at.pace room;
         }))
         after (unslotted (made given (calls_of h) stood)) (metered given pace2 h at) follows.links_are follows.count);
   }
@@ -142,13 +144,13 @@ module _ {C S : Type 0} (cmp : C → C → Ordering) (wire : Wire C S) (node : N
       Paces n t held cause outcome → owed ≡ owed_after held.phase outcome pace.owed held.owed →
       AtEach cmp node (λ m calls. IsDone wire m pace.refresh held.asked calls p t outcome) → MakesFor cmp p t outcome node node2 →
       ((j : ℕ) (place : Option ℕ) → read_by j place (Happening.Heard n p t owed cause outcome) ≡ []) →
-      Follows cmp n p t owed outcome links links2 actions actions2 →
+      Follows cmp n p t owed outcome links links2 actions actions2 → IfSome (said_as t outcome) (λ at. has_room pace.queue held ≡ true) →
       Does cmp wire (Happening.Heard n p t owed cause outcome) v
       (seen node2 pace greeting cooldown (as_nanos t) next arrivals answers reads links2 actions2)
-  hears n p held t owed cause outcome node2 links2 actions2 linked number after comes paced owes done made unread follows =
+  hears n p held t owed cause outcome node2 links2 actions2 linked number after comes paced owes done made unread follows room =
       hears_as n p held t owed cause outcome node2 reads links2 actions2 linked number after comes paced owes done made
       (λ given pace2 h at. Standing.reads_later (base_of cmp wire given pace2) h v at (Happening.Heard n p t owed cause outcome) (as_nanos t) after
-      (λ j. refl) (λ j. refl) unread) follows
+      (λ j. refl) (λ j. refl) unread) follows room
 
 -- how a node stands after these calls
 abbrev pub stands_at : {C S : Type 0} → (C → C → Ordering) → Wire C S → Setup C S → List (Call C S) → Standing C S
@@ -417,7 +419,7 @@ module _ {C S : Type 0} (cmp : C → C → Ordering) (wire : Wire C S) (node : N
     waits_on w owed2 f less kept same = hears cmp wire node pace greeting cooldown latest next arrivals answers reads links actions n p f.held t owed2
         (OfFrame frame wall) (Outcome.Waits w) node links2 actions2 f.linked f.number after
         (waits_out cmp wire stood.node p f.held frame wall f.none w f.is_seen) (λ given pace2 h at. f.expected) (less ∙ ap (λ k. k - 1) (sym f.owed_is))
-        (λ given calls at. tt) unmade (λ j place. refl) (record { links_are = kept; count = count; said = said_none actions actions2 same })
+        (λ given calls at. tt) unmade (λ j place. refl) (record { links_are = kept; count = count; said = said_none actions actions2 same }) tt
 
     -- it is ignored
     pub ignores_on : Found came.Ignored → KeptAs (hearing t owed None) links2 → actions2 ≡ actions →
@@ -425,7 +427,7 @@ module _ {C S : Type 0} (cmp : C → C → Ordering) (wire : Wire C S) (node : N
     ignores_on f kept same = hears cmp wire node pace greeting cooldown latest next arrivals answers reads links actions n p f.held t owed
         (OfFrame frame wall) Outcome.Ignores node links2 actions2 f.linked f.number after
         (ignores_out cmp wire stood.node p f.held frame wall f.none f.is_seen) (λ given pace2 h at. f.expected) (sym f.owed_is)
-        (λ given calls at. tt) unmade (λ j place. refl) (record { links_are = kept; count = count; said = said_none actions actions2 same })
+        (λ given calls at. tt) unmade (λ j place. refl) (record { links_are = kept; count = count; said = said_none actions actions2 same }) tt
 
     -- a message is delivered
     pub delivers_on : (message : Data) (held : Held) → link_of cmp links p ≡ Some held → held.number ≡ n →
@@ -433,7 +435,7 @@ module _ {C S : Type 0} (cmp : C → C → Ordering) (wire : Wire C S) (node : N
         Does cmp wire (Happening.Heard n p t owed (OfFrame frame wall) (Outcome.Delivers message)) stood (left node links2 actions2)
     delivers_on message held linked number owed_is expected out kept same = hears cmp wire node pace greeting cooldown latest next arrivals answers reads links actions n p held t owed
         (OfFrame frame wall) (Outcome.Delivers message) node links2 actions2 linked number after out (λ given pace2 h at. expected) (sym owed_is)
-        (λ given calls at. tt) unmade (λ j place. refl) (record { links_are = kept; count = count; said = said_none actions actions2 same })
+        (λ given calls at. tt) unmade (λ j place. refl) (record { links_are = kept; count = count; said = said_none actions actions2 same }) tt
 
   -- an info is of the future
   pub early_on : (links2 : List (C × Held)) (actions2 : List (Action C)) → Found came.Early →
@@ -442,7 +444,7 @@ module _ {C S : Type 0} (cmp : C → C → Ordering) (wire : Wire C S) (node : N
   early_on links2 actions2 f follows = hears cmp wire node pace greeting cooldown latest next arrivals answers reads links actions n p f.held t owed
       (OfFrame frame wall) Outcome.IsEarly node links2 actions2 f.linked f.number after
       (early_out cmp wire stood.node p f.held frame wall f.none f.is_seen) (λ given pace2 h at. f.expected) (sym f.owed_is)
-      (λ given calls at. tt) unmade (λ j place. refl) follows
+      (λ given calls at. tt) unmade (λ j place. refl) follows tt
 
   -- a rule is broken
   pub breaks_on : (x : Breach) (blocked : Option Bool) (node2 : NodeView C S) (links2 : List (C × Held)) (actions2 : List (Action C)) → Found (came.Breach x) →
@@ -452,7 +454,7 @@ module _ {C S : Type 0} (cmp : C → C → Ordering) (wire : Wire C S) (node : N
   breaks_on x blocked node2 links2 actions2 f made blocks follows = hears cmp wire node pace greeting cooldown latest next arrivals answers reads links actions n p f.held t owed
       (OfFrame frame wall) (Outcome.Breaks x blocked) node2 links2 actions2 f.linked f.number after
       (breaks_out cmp wire stood.node p f.held frame wall f.none x blocked f.is_seen) (λ given pace2 h at. f.expected) (sym f.owed_is)
-      (blocked_done cmp wire node p t x blocked blocks) made (λ j place. refl) follows
+      (blocked_done cmp wire node p t x blocked blocks) made (λ j place. refl) follows tt
 
   -- what is served is of a peer that has greeted, and its node may answer it
   pub servable_on : Found came.Served → IsServable wire node.limits frame
@@ -465,15 +467,28 @@ module _ {C S : Type 0} (cmp : C → C → Ordering) (wire : Wire C S) (node : N
       IsServed cmp wire frame wall outcome node → owed ≡ owed_after f.held.phase outcome pace.owed f.held.owed →
       AtEach cmp node (λ m calls. IsDone wire m pace.refresh f.held.asked calls p t outcome) → MakesFor cmp p t outcome node node2 →
       ((j : ℕ) (place : Option ℕ) → read_by j place (Happening.Heard n p t owed (OfFrame frame wall) outcome) ≡ []) →
-      Follows cmp n p t owed outcome links links2 actions actions2 →
+      Follows cmp n p t owed outcome links links2 actions actions2 → IfSome (said_as t outcome) (λ at. has_room pace.queue f.held ≡ true) →
       Does cmp wire (Happening.Heard n p t owed (OfFrame frame wall) outcome) stood (left node2 links2 actions2)
-  serves_on outcome node2 links2 actions2 f next_is served owes done made unread follows =
+  serves_on outcome node2 links2 actions2 f next_is served owes done made unread follows room =
       let is = served_open cmp wire stood.node p f.held frame wall f.none f.is_seen in
       hears cmp wire node pace greeting cooldown latest next arrivals answers reads links actions n p f.held t owed
       (OfFrame frame wall) outcome node2 links2 actions2 f.linked f.number after
       (served_out cmp wire stood.node p f.held frame wall f.none outcome is.0 (λ l j shares comes. next_is f.held.owed l j shares is.1 is.2 comes)
       (bare cmp node (λ m calls. let x = standing_in m wire (world_after m.directory calls) in
-      ComesOf cmp wire x.limits x.judge x.infos frame wall outcome) served)) (λ given pace2 h at. f.expected) owes done made unread follows
+      ComesOf cmp wire x.limits x.judge x.infos frame wall outcome) served)) (λ given pace2 h at. f.expected) owes done made unread follows room
+
+-- a link that changed, and then changed once more
+pub changed_twice : (b : Bool) (f g : Held → Held) (o o1 o2 : Option Held) → o1 ≡ (if b then option_map f o else o) →
+    o2 ≡ (if b then option_map g o1 else o1) → o2 ≡ (if b then option_map (λ h. g (f h)) o else o)
+changed_twice true f g None o1 o2 first second = second ∙ ap (option_map g) first
+changed_twice true f g (Some h) o1 o2 first second = second ∙ ap (option_map g) first
+changed_twice false f g o o1 o2 first second = second ∙ first
+
+-- a link on which another frame may be said
+pub room_on : {A C : Type 0} (cmp : C → C → Ordering) (queue : ℕ) (p : C) (links : List (C × Held)) (held : Held) → link_of cmp links p ≡ Some held →
+    (o : Option A) → IfSome o (λ a. has_room_at queue (link_of cmp links p) ≡ true) → IfSome o (λ a. has_room queue held ≡ true)
+room_on cmp queue p links held linked None room = tt
+room_on cmp queue p links held linked (Some a) room = sym (ap (has_room_at queue) linked) ∙ room
 
 -- WHAT IS RETURNED
 module _ {C S : Type 0} (cmp : C → C → Ordering) (wire : Wire C S) {v w v2 : DriverView C S} (same : v ≡ w) where

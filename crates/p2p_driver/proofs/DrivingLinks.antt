@@ -125,7 +125,7 @@ module _ {C S : Type 0} (node : NodeView C S) (pace : Pace) (greeting : List ℕ
         (xs : List (Arrival C)) (answers2 : AnswersView) (actions2 : List (Action C)) → find (has_number n) arrivals ≡ Some stream →
         NoProofIs cmp stream p t None → latest ≤ as_nanos t →
         Makes cmp (Listen p (as_nanos t) (as_nanos draw) ∷ []) node node2 →
-        ((j : ℕ) → reads_of reads2 j ≡ (if j == n then Some (unread (length pace.channels.items)) else reads_of reads j)) →
+        ((j : ℕ) → reads_of reads2 j ≡ (if j == n then Some (unread (length pace.channels.items + length pace.channels.items)) else reads_of reads j)) →
         ((q : C) → link_of cmp links2 q ≡ (if is_at (cmp p) q then Some (link_with n t) else link_of cmp links q)) →
         length links2 ≡ length links + 1 → xs ≡ filter (λ a. not (has_number n a)) arrivals →
         roomless answers2 ≡ roomless answers → actions2 ≡ actions ++ sent n greeting →

@@ -1,5 +1,5 @@
 -- How frames that are to come make a driver stand, by its parts.
-use Rattle.std.proofs.Common.{◌≡◌, Bool, true, false, ℕ, ◌==◌, ◌≤◌, ◌<◌, ◌⊎◌, inl, inr, List, Option, Some, None, refl, sym, ◌∙◌, ap, subst, arith}
+use Rattle.std.proofs.Common.{◌≡◌, ◌+◌, Bool, true, false, ℕ, ◌==◌, ◌≤◌, ◌<◌, ◌⊎◌, inl, inr, List, Option, Some, None, refl, sym, ◌∙◌, ap, subst, arith}
 use Rattle.std.specs.Prelude.{IfSome, length, if◌then◌else◌, option_map}
 use Rattle.std.specs.BTreeMap.{is_at}
 use Rattle.std.specs.Option.{IsSomeAnd}
@@ -83,7 +83,7 @@ looked_at {C = C} cmp links links2 p l l2 same kept = subst (λ l. (q : C) → l
     ≡ (if is_at (cmp p) q then option_map (allowing l) (link_of cmp links q) else link_of cmp links q)) same kept
 
 -- what is so of one that there is
-of_some : {A : Type 0} (P : A → Type 0) (o : Option A) (a : A) → o ≡ Some a → IsSomeAnd o P → P a
+pub of_some : {A : Type 0} (P : A → Type 0) (o : Option A) (a : A) → o ≡ Some a → IsSomeAnd o P → P a
 of_some P o a is holds = subst (λ o. IsSomeAnd o P) is holds
 
 -- one that there is
@@ -142,7 +142,7 @@ module _ {C S : Type 0} (cmp : C → C → Ordering) (wire : Wire C S) (node : N
         hears cmp wire node pace greeting cooldown latest next arrivals answers reads links actions n p f.held t owed
         (OfHead longest head size) (Outcome.Breaks x blocked) node2 links2 actions2 f.linked f.number after
         (outs k f (Outcome.Breaks x blocked) may) (paces k f (Outcome.Breaks x blocked) (λ given pace2 h at. comes pace2 h)) (sym f.owed_is)
-        (blocked_done cmp wire node p t x blocked blocks) made (λ j place. refl) follows
+        (blocked_done cmp wire node p t x blocked blocks) made (λ j place. refl) follows tt
 
     -- the channel isn't in the settings
     pub lacks_on : (links2 : List (C × Held)) (actions2 : List (Action C)) → Found kind.NoChannel →
@@ -152,7 +152,7 @@ module _ {C S : Type 0} (cmp : C → C → Ordering) (wire : Wire C S) (node : N
     lacks_on links2 actions2 f follows = hears cmp wire node pace greeting cooldown latest next arrivals answers reads links actions n p f.held t owed
         (OfHead longest head size) Outcome.LacksChannel node links2 actions2 f.linked f.number after
         (outs kind.NoChannel f Outcome.LacksChannel refl) (paces kind.NoChannel f Outcome.LacksChannel (λ given pace2 h at. tt)) (sym f.owed_is)
-        (λ given calls at. tt) unmade (λ j place. refl) follows
+        (λ given calls at. tt) unmade (λ j place. refl) follows tt
 
     -- a first frame may be read
     pub free_on : (links2 : List (C × Held)) (actions2 : List (Action C)) → Found kind.Greeting → KeptAs (allowing (looked_of head size)) links2 →
@@ -167,7 +167,7 @@ module _ {C S : Type 0} (cmp : C → C → Ordering) (wire : Wire C S) (node : N
         (λ given calls at. tt) unmade
         (λ given pace2 h at. metered_free pace2 (as_nanos t) n p t owed (OfHead longest head size) (looked_of head size) h reads
         (Standing.reads_at (base_of cmp wire given pace2) h v at (as_nanos t) after))
-        (record { links_are = kept; count = count; said = said_none actions actions2 same })
+        (record { links_are = kept; count = count; said = said_none actions actions2 same }) tt
 
     -- something is kept of the link, and it has the channel
     pub linked_meters : CmpEqualImpliesEq cmp → DriverStands cmp wire v → (place : Option ℕ) → IfSome place (λ x. x < length pace.channels.items) →
@@ -175,9 +175,9 @@ module _ {C S : Type 0} (cmp : C → C → Ordering) (wire : Wire C S) (node : N
     linked_meters exact at place less k f =
         let here = metered_by (base_of cmp wire at.given at.pace) exact at.history v at.stands p f.held n f.linked f.number in
         let one = the_one (IsMetered at.pace latest n here.0.1) (reads_of reads n) here.2 in
-        (one.0, one.1, go place less one.0 (one.2.count ∙ ap (λ (q : Pace). length q.channels.items) (sym at.stands.pace)))
+        (one.0, one.1, go place less one.0 (one.2.count ∙ ap (λ (q : Pace). length q.channels.items + length q.channels.items) (sym at.stands.pace)))
       where
-        go : (place : Option ℕ) → IfSome place (λ x. x < length pace.channels.items) → (m : MetersView) → length m.channels ≡ length pace.channels.items →
+        go : (place : Option ℕ) → IfSome place (λ x. x < length pace.channels.items) → (m : MetersView) → length m.channels ≡ length pace.channels.items + length pace.channels.items →
             HasPlace place m
         go None less m same = tt
         go (Some x) less m same = omega (arith, less, same)
@@ -226,7 +226,7 @@ module _ {C S : Type 0} (cmp : C → C → Ordering) (wire : Wire C S) (node : N
           (sym f.owed_is) (λ given calls at. tt) unmade
           (λ given pace2 h at. metered_reads pace2 n p t owed (OfHead longest head size) place (looked_of head size) rate h reads reads2 m m2
           (rated_by given pace2 h at) old new takes others (Standing.reads_at (base_of cmp wire given pace2) h v at (as_nanos t) after))
-          (record { links_are = kept; count = count; said = said_none actions actions2 same })
+          (record { links_are = kept; count = count; said = said_none actions actions2 same }) tt
 
       -- .. or not yet
       pub delays_on : (next2 : ℕ) (reads2 : List (ℕ × MetersView)) (links2 : List (C × Held)) (actions2 : List (Action C)) (m : MetersView) →
@@ -246,7 +246,7 @@ module _ {C S : Type 0} (cmp : C → C → Ordering) (wire : Wire C S) (node : N
           (subst (λ o. IsSomeAnd o (λ rate. IsDelayed rate (frames_read n place h) (as_nanos t) next2)) (sym (rated_by given pace2 h at))
           (delayed given pace2 h at))))
           (sym f.owed_is) (λ given calls at. tt) unmade (λ j place. refl)
-          (record { links_are = kept; count = count; said = said_none actions actions2 same }))
+          (record { links_are = kept; count = count; said = said_none actions actions2 same }) tt)
         where
           later : (now : ℕ) → as_nanos t ≤ now → latest ≤ now
           later now is = omega (arith, after, is)

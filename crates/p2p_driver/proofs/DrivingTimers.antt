@@ -1,7 +1,7 @@
 -- How the time that passes makes a driver stand, by its parts.
 use Rattle.std.proofs.Common.{◌≡◌, ℕ, ◌==◌, ◌+◌, ◌≤◌, ◌<◌, Bool, true, false, not, cond, ◌&&◌, List, [], ◌∷◌, ◌++◌, Option, Some, None, find, filter, refl, sym, ◌∙◌, ap, subst}
 use Rattle.std.proofs.Common.{arith}
-use Rattle.std.specs.Prelude.{is_some, length, max, nat_le, option_map, unwrap_or, IfSome, if◌then◌else◌, Result, Ok}
+use Rattle.std.specs.Prelude.{is_some, length, ◌||◌, max, min, nat_le, option_map, unwrap_or, IfSome, if◌then◌else◌, Result, Ok}
 use Rattle.std.specs.Result.{is_ok}
 use Rattle.std.specs.List.{list_all}
 use Rattle.std.specs.BTreeMap.{is_at}
@@ -22,10 +22,10 @@ use Rattle.p2p_directory.specs.Nodes.{NodeView, NodeStandsAt, made_of}
 use Rattle.p2p_directory.specs.Received.{Wire}
 use Rattle.p2p_driver.specs.Actions.{ActionsView}
 use Rattle.p2p_driver.specs.Answers.{AnswersView, AreKept, roomless}
-use Rattle.p2p_driver.specs.Arrivals.{has_number, is_unclaimed, deadline_of}
+use Rattle.p2p_driver.specs.Arrivals.{has_number, is_unclaimed, deadline_of, lesser_of}
 use Rattle.p2p_driver.specs.Drivers.{DriverView, DriverStandsAt, IsRight, IsAsked, HasRoom, Does, Rise, seen, base_of}
-use Rattle.p2p_driver.specs.Happenings.{Happening, calls_of, answered_in, closing, closed_at, shut, asking_on, why_late}
-use Rattle.p2p_driver.specs.Links.{link_of, needs, need_of, need_at, is_late, is_timed, due, asking, is_to_ask, to_ask}
+use Rattle.p2p_driver.specs.Happenings.{Happening, calls_of, answered_in, closing, closed_at, shut, asking_on, said_with, why_late}
+use Rattle.p2p_driver.specs.Links.{link_of, needs, need_of, need_at, is_late, is_timed, due, hear_by, write_by, has_room, asking, saying, is_to_ask, to_ask}
 use Rattle.p2p_driver.specs.Meters.{MetersView}
 use Rattle.p2p_driver.specs.Questions.{owed_with, asked_after, IsQuestion, IsNextQuestion}
 use Rattle.p2p_driver.specs.Steps.{Makes}
@@ -113,6 +113,21 @@ module _ {C : Type 0} where
     actions_fit = let fit = has.actions_fit in grind (arith);
     answers_fit = fits2;
   }
+
+-- a frame that is said makes no link late at once
+late_saying : (greeting silence : ℕ) (t : Duration) (question : Option Question) (x : Held) → is_late greeting silence (as_nanos t) x ≡ false →
+    is_late greeting silence (as_nanos t) (saying (said_with t question) x) ≡ false
+late_saying greeting silence t None x isnt = isnt
+late_saying greeting silence t (Some q) x isnt = go (is_timed x.phase) x.unwritten (hear_by greeting silence x) isnt
+  where
+    go : (timed : Bool) (us : List Duration) (by : ℕ) → (timed && nat_le (lesser_of (write_by silence us) by) (as_nanos t)) ≡ false →
+        (timed && nat_le (lesser_of (write_by silence (us ++ t ∷ [])) by) (as_nanos t)) ≡ false
+    go false us by isnt = refl
+    go true [] by isnt = not_yet by isnt
+      where
+        not_yet : (by : ℕ) → nat_le by (as_nanos t) ≡ false → nat_le (min (as_nanos t + max silence 1) by) (as_nanos t) ≡ false
+        not_yet by isnt = grind (arith, nat_tests)
+    go true (u ∷ us) by isnt = isnt
 
 -- a link that is late isn't closed: something may have to be said of it
 late_needs : (greeting silence t : ℕ) (held : Held) → is_late greeting silence t held ≡ true → 1 ≤ need_of held.phase
@@ -237,30 +252,32 @@ module _ {C S : Type 0} (cmp : C → C → Ordering) (wire : Wire C S) (node : N
       }
 
   -- a question was due
-  asks : (exact : CmpEqualImpliesEq cmp) (n : ℕ) (p : C) (held : Held) (t : Duration) (owed : ℕ) (question : Option Question)
+  asks : (exact : CmpEqualImpliesEq cmp) (n : ℕ) (p : C) (held : Held) (t : Duration) (owed : ℕ) (fits : Bool) (question : Option Question)
       (links2 : List (C × Held)) (actions2 : List (Action C)) →
       latest ≡ as_nanos t → link_of cmp links p ≡ Some held → held.number ≡ n →
       is_to_ask (as_nanos pace.tick) (as_nanos t) held ≡ true → owed ≡ owed_with question pace.owed held.owed →
       IfSome question (λ q. IsNextQuestion cmp wire pace.refresh held.asked q node) →
-      ((q : C) → link_of cmp links2 q ≡ (if is_at (cmp p) q then option_map (asking owed (asked_after t question held.asked)) (link_of cmp links q) else link_of cmp links q)) →
-      length links2 ≡ length links → actions2 ≡ actions ++ asking_on n question →
-      Does cmp wire (Happening.Asked n p t owed question) v (seen node pace greeting cooldown latest next arrivals answers reads links2 actions2)
-  asks exact n p held t owed question links2 actions2 now linked number due owes next_is tied same said = record {
+      ((q : C) → link_of cmp links2 q ≡ (if is_at (cmp p) q then option_map (λ x. saying (said_with t question) (asking owed (asked_after t question held.asked) x)) (link_of cmp links q) else link_of cmp links q)) →
+      length links2 ≡ length links → actions2 ≡ actions ++ asking_on n question → fits ≡ has_room pace.queue held → IfSome question (λ q. fits ≡ true) →
+      Does cmp wire (Happening.Asked n p t owed fits question) v (seen node pace greeting cooldown latest next arrivals answers reads links2 actions2)
+  asks exact n p held t owed fits question links2 actions2 now linked number due owes next_is tied same said room_is room = record {
     goes = λ given pace2 h at.
         let b = base_of cmp wire given pace2 in
-        subst (DriverStandsAt b (Happening.Asked n p t owed question ∷ h))
+        subst (DriverStandsAt b (Happening.Asked n p t owed fits question ∷ h))
         (viewed (record v {
           latest = as_nanos t;
           links = links2;
           actions = actions ++ asking_on n question;
         }) node pace greeting cooldown latest next arrivals answers reads links2 actions2 refl refl refl refl (sym now) refl refl refl refl refl (sym said))
-        (Standing.asks b h v at n p t owed question links2
-        (subst (λ o. IsSomeAnd o (IsAsked b h n p t owed question)) (sym linked ∙ at.links p) (record {
+        (Standing.asks b h v at n p t owed fits question links2
+        (subst (λ o. IsSomeAnd o (IsAsked b h n p t owed fits question)) (sym linked ∙ at.links p) (record {
           number = number;
           due = subst (λ (q : Pace). is_to_ask (as_nanos q.tick) (as_nanos t) held ≡ true) at.pace due;
           owes = subst (λ (q : Pace). owed ≡ owed_with question q.owed held.owed) at.pace owes;
           asks = subst (λ (q : Pace). IfSome question (IsQuestion wire b.made (world_after b.made.directory (calls_of h)) q.refresh held.asked)) at.pace
               (here given (calls_of h) (slotted at.node) question next_is);
+          room_is = subst (λ (q : Pace). fits ≡ has_room q.queue held) at.pace room_is;
+          room = room;
         }))
         (let is = now in grind (arith)) tied_at same);
   }
@@ -272,57 +289,63 @@ module _ {C S : Type 0} (cmp : C → C → Ordering) (wire : Wire C S) (node : N
       here given calls at (Some q) is = is given calls at
 
       tied_at : (q : C) → link_of cmp links2 q
-          ≡ (if is_at (cmp p) q then option_map (λ x. asking owed (asked_after t question x.asked) x) (link_of cmp links q) else link_of cmp links q)
+          ≡ (if is_at (cmp p) q then option_map (λ x. saying (said_with t question) (asking owed (asked_after t question x.asked) x)) (link_of cmp links q) else link_of cmp links q)
       tied_at q = tied q ∙ go (is_at (cmp p) q) refl
         where
           go : (b : Bool) → is_at (cmp p) q ≡ b →
-              (if b then option_map (asking owed (asked_after t question held.asked)) (link_of cmp links q) else link_of cmp links q)
-              ≡ (if b then option_map (λ x. asking owed (asked_after t question x.asked) x) (link_of cmp links q) else link_of cmp links q)
+              (if b then option_map (λ x. saying (said_with t question) (asking owed (asked_after t question held.asked) x)) (link_of cmp links q) else link_of cmp links q)
+              ≡ (if b then option_map (λ x. saying (said_with t question) (asking owed (asked_after t question x.asked) x)) (link_of cmp links q) else link_of cmp links q)
           go false is = refl
           go true is = let at : link_of cmp links q ≡ Some held = sym (ap (link_of cmp links) (tells_apart exact p q is)) ∙ linked in
-              ap (option_map (asking owed (asked_after t question held.asked))) at
-              ∙ sym (ap (option_map (λ x. asking owed (asked_after t question x.asked) x)) at)
+              ap (option_map (λ x. saying (said_with t question) (asking owed (asked_after t question held.asked) x))) at
+              ∙ sym (ap (option_map (λ x. saying (said_with t question) (asking owed (asked_after t question x.asked) x))) at)
 
   -- no link is late that wasn't
-  still_in_time : (t p_owed : ℕ) (p : C) (a : Asked) (links2 : List (C × Held)) →
-      ((q : C) → link_of cmp links2 q ≡ (if is_at (cmp p) q then option_map (asking p_owed a) (link_of cmp links q) else link_of cmp links q)) →
-      ((q : C) (h : Held) → link_of cmp links q ≡ Some h → is_late (as_nanos pace.greeting) (as_nanos pace.silence) t h ≡ false) →
-      (q : C) (h : Held) → link_of cmp links2 q ≡ Some h → is_late (as_nanos pace.greeting) (as_nanos pace.silence) t h ≡ false
-  still_in_time t p_owed p a links2 tied none q h is = go (is_at (cmp p) q) (link_of cmp links q) refl (sym (tied q) ∙ is)
+  still_in_time : (t : Duration) (p_owed : ℕ) (p : C) (a : Asked) (question : Option Question) (links2 : List (C × Held)) →
+      ((q : C) → link_of cmp links2 q ≡ (if is_at (cmp p) q then option_map (λ x. saying (said_with t question) (asking p_owed a x)) (link_of cmp links q) else link_of cmp links q)) →
+      ((q : C) (h : Held) → link_of cmp links q ≡ Some h → is_late (as_nanos pace.greeting) (as_nanos pace.silence) (as_nanos t) h ≡ false) →
+      (q : C) (h : Held) → link_of cmp links2 q ≡ Some h → is_late (as_nanos pace.greeting) (as_nanos pace.silence) (as_nanos t) h ≡ false
+  still_in_time t p_owed p a question links2 tied none q h is = go (is_at (cmp p) q) (link_of cmp links q) refl (sym (tied q) ∙ is)
     where
       late : Held → Bool
-      late h = is_late (as_nanos pace.greeting) (as_nanos pace.silence) t h
+      late h = is_late (as_nanos pace.greeting) (as_nanos pace.silence) (as_nanos t) h
 
-      go : (b : Bool) (o : Option Held) → link_of cmp links q ≡ o → (if b then option_map (asking p_owed a) o else o) ≡ Some h → late h ≡ false
+      asked : Held → Held
+      asked x = saying (said_with t question) (asking p_owed a x)
+
+      go : (b : Bool) (o : Option Held) → link_of cmp links q ≡ o → (if b then option_map asked o else o) ≡ Some h → late h ≡ false
       go true None at is = absurd cc
-      go true (Some x) at is = subst (λ y. late y ≡ false) (only x is) (none q x at)
+      go true (Some x) at is = subst (λ y. late y ≡ false) (only x is)
+          (late_saying (as_nanos pace.greeting) (as_nanos pace.silence) t question (asking p_owed a x) (none q x at))
         where
-          only : (x : Held) → Some (asking p_owed a x) ≡ Some h → asking p_owed a x ≡ h
+          only : (x : Held) → Some (asked x) ≡ Some h → asked x ≡ h
           only x is = cc
       go false o at is = none q h (at ∙ is)
 
   -- one that is to be asked is
-  pub asks_one : (exact : CmpEqualImpliesEq cmp) (n : ℕ) (p : C) (held : Held) (t : Duration) (owed : ℕ) (question : Option Question) (whether : Bool)
+  pub asks_one : (exact : CmpEqualImpliesEq cmp) (n : ℕ) (p : C) (held : Held) (t : Duration) (owed : ℕ) (fits : Bool) (question : Option Question) (whether : Bool)
       (links2 : List (C × Held)) (actions2 : List (Action C)) →
       latest ≡ as_nanos t → link_of cmp links p ≡ Some held → held.number ≡ n →
       is_to_ask (as_nanos pace.tick) (as_nanos t) held ≡ true → owed ≡ owed_with question pace.owed held.owed →
-      IfSome question (λ q. IsNextQuestion cmp wire pace.refresh held.asked q node) → is_some question ≡ whether →
-      ((q : C) → link_of cmp links2 q ≡ (if is_at (cmp p) q then option_map (asking owed (asked_after t question held.asked)) (link_of cmp links q) else link_of cmp links q)) →
+      IfSome question (λ q. IsNextQuestion cmp wire pace.refresh held.asked q node) → (is_some question || not fits) ≡ whether →
+      ((q : C) → link_of cmp links2 q ≡ (if is_at (cmp p) q then option_map (λ x. saying (said_with t question) (asking owed (asked_after t question held.asked) x)) (link_of cmp links q) else link_of cmp links q)) →
       length links2 ≡ length links → actions2 ≡ actions ++ asking_on n question →
       to_ask (as_nanos pace.tick) (as_nanos t) links2 + 1 ≡ to_ask (as_nanos pace.tick) (as_nanos t) links →
+      fits ≡ has_room pace.queue held → IfSome question (λ q. fits ≡ true) →
       AsksOne cmp wire t whether v (seen node pace greeting cooldown latest next arrivals answers reads links2 actions2)
-  asks_one exact n p held t owed question whether links2 actions2 now linked number due owes next_is asked_is tied same said fewer = record {
+  asks_one exact n p held t owed fits question whether links2 actions2 now linked number due owes next_is asked_is tied same said fewer room_is room = record {
     number = n;
     peer = p;
     owed = owed;
+    fits = fits;
     question = question;
     asked_is = asked_is;
-    does = asks exact n p held t owed question links2 actions2 now linked number due owes next_is tied same said;
+    does = asks exact n p held t owed fits question links2 actions2 now linked number due owes next_is tied same said room_is room;
     latest = refl;
     pace = refl;
     late = λ none. record {
       streams = none.streams;
-      links = still_in_time (as_nanos t) owed p (asked_after t question held.asked) links2 tied none.links;
+      links = still_in_time t owed p (asked_after t question held.asked) question links2 tied none.links;
     };
     fewer = fewer;
   }
@@ -349,7 +372,7 @@ module _ {C S : Type 0} (cmp : C → C → Ordering) (wire : Wire C S) (t : Dura
   pub asks_more : (v v2 v3 : DriverView C S) (before after : Result (Unit {0}) AllocError) (asked : Bool) → AsksAll cmp wire t before v v2 →
       AsksOne cmp wire t asked v2 v3 → (asked && is_ok before) ≡ is_ok after → AsksAll cmp wire t after v v3
   asks_more v v2 v3 before after asked all one is = record {
-    happenings = Happening.Asked one.number one.peer t one.owed one.question ∷ all.happenings;
+    happenings = Happening.Asked one.number one.peer t one.owed one.fits one.question ∷ all.happenings;
     are_asked = (refl, all.are_asked);
     all = ap (λ b. b && list_all was_asked all.happenings) one.asked_is ∙ ap (λ b. asked && b) all.all ∙ is;
     does = λ given pace h at. one.does.goes given pace (all.happenings ++ h) (all.does given pace h at);

@@ -23,9 +23,9 @@ use Rattle.p2p_driver.specs.Answers.{AnswersView}
 use Rattle.p2p_driver.specs.Drivers.{DriverView, DriverStands, Does, seen, base_of}
 use Rattle.p2p_driver.specs.Frames.{Outcome, Spells, IsWaiting, refusal_of, is_early, owed_after}
 use Rattle.p2p_driver.specs.Frames.Cause.{OfVerdicts}
-use Rattle.p2p_driver.specs.Happenings.{Happening, calls_of}
+use Rattle.p2p_driver.specs.Happenings.{Happening, calls_of, said_as, said_with}
 use Rattle.p2p_driver.specs.Hearing.{Follows, IsJudged}
-use Rattle.p2p_driver.specs.Links.{link_of, hearing}
+use Rattle.p2p_driver.specs.Links.{link_of, hearing, has_room, has_room_at}
 use Rattle.p2p_driver.specs.Meters.{MetersView}
 use Rattle.p2p_driver.specs.Reading.{read_by}
 use Rattle.p2p_driver.specs.Steps.{Makes, MakesFor, MayConnect, IsDone, IsBlocked}
@@ -41,7 +41,7 @@ use Rattle.p2p_driver.specs.declared.pace.Pace.{Pace}
 use Rattle.p2p_driver.specs.Questions.{IsNextQuestion}
 use Rattle.p2p_driver.specs.declared.questions.Question.{Question}
 use Rattle.p2p_driver.proofs.Driving.{slotted}
-use Rattle.p2p_driver.proofs.DrivingFrames.{hears, judged_outs, blocked_done, said_none, unchanged, blocks_from, makes_from}
+use Rattle.p2p_driver.proofs.DrivingFrames.{hears, room_on, judged_outs, blocked_done, said_none, unchanged, blocks_from, makes_from}
 use Rattle.p2p_driver.proofs.Reserved.{reserved_anywhere}
 use Rattle.p2p_driver.proofs.Status.{connects_by}
 use Rattle.p2p_driver.proofs.Waiting.{waits_by}
@@ -142,27 +142,32 @@ module _ {C S : Type 0} (cmp : C → C → Ordering) (wire : Wire C S) (node : N
       IsJudged cmp wire w verdicts outcome node → owed ≡ owed_after held.phase outcome pace.owed held.owed →
       AtEach cmp node (λ m calls. IsDone wire m pace.refresh held.asked calls p t outcome) → MakesFor cmp p t outcome node node2 →
       ((j : ℕ) (place : Option ℕ) → read_by j place (Happening.Heard n p t owed (OfVerdicts verdicts) outcome) ≡ []) →
-      Follows cmp n p t owed outcome links links2 actions actions2 →
+      Follows cmp n p t owed outcome links links2 actions actions2 → IfSome (said_as t outcome) (λ at. has_room pace.queue held ≡ true) →
       Does cmp wire (Happening.Heard n p t owed (OfVerdicts verdicts) outcome) stood (left node2 links2 actions2)
-  does owed outcome node2 links2 actions2 comes owes done made unread follows =
+  does owed outcome node2 links2 actions2 comes owes done made unread follows room =
       hears cmp wire node pace greeting cooldown latest next arrivals answers reads links actions n p held t owed
       (OfVerdicts verdicts) outcome node2 links2 actions2 linked number after
       (judged_outs cmp wire stood.node p held w verdicts outcome (not_closing cmp wire node.limits judge held.phase p w may) waits counted comes)
-      (λ given pace2 h at. tt) owes done made unread follows
+      (λ given pace2 h at. tt) owes done made unread follows room
 
   -- the peer has greeted
   pub greets_by : (info : Info C S) (question : Option Question) (node1 node2 : NodeView C S) (links2 : List (C × Held)) (actions2 : List (Action C)) →
       IsJudged cmp wire w verdicts (Outcome.Greets info question) node → Makes cmp (Update (info ∷ []) ∷ []) node node1 →
       Makes cmp (Connect p false ∷ []) node1 node2 → IfSome question (λ question. IsNextQuestion cmp wire pace.refresh held.asked question node2) →
+      IfSome question (λ question. has_room_at pace.queue (link_of cmp links p) ≡ true) →
       Follows cmp n p t (owed_after phase.Greeting (Outcome.Greets info question) pace.owed held.owed) (Outcome.Greets info question) links links2 actions actions2 →
       Does cmp wire (Happening.Heard n p t (owed_after phase.Greeting (Outcome.Greets info question) pace.owed held.owed) (OfVerdicts verdicts)
       (Outcome.Greets info question)) stood (left node2 links2 actions2)
-  greets_by info question node1 node2 links2 actions2 comes updated connected asked follows =
+  greets_by info question node1 node2 links2 actions2 comes updated connected asked room follows =
       does (owed_after phase.Greeting (Outcome.Greets info question) pace.owed held.owed) (Outcome.Greets info question) node2 links2 actions2 comes
       (ap (λ ph. owed_after ph (Outcome.Greets info question) pace.owed held.owed)
       (sym (greeting_phase cmp wire node.limits judge held.phase p w info may comes.0)))
-      (asks question asked) made (λ j place. refl) follows
+      (asks question asked) made (λ j place. refl) follows (said_if question (room_on cmp pace.queue p links held linked question room))
     where
+      said_if : (q : Option Question) → IfSome q (λ q. has_room pace.queue held ≡ true) → IfSome (said_with t q) (λ at. has_room pace.queue held ≡ true)
+      said_if None is = tt
+      said_if (Some q) is = is
+
       made : MakesFor cmp p t (Outcome.Greets info question) node node2
       made given calls at = connected given (Update (info ∷ []) ∷ calls) (updated given calls at)
 
@@ -179,7 +184,7 @@ module _ {C S : Type 0} (cmp : C → C → Ordering) (wire : Wire C S) (node : N
       length links2 ≡ length links → actions2 ≡ actions →
       Does cmp wire (Happening.Heard n p t held.owed (OfVerdicts verdicts) (Outcome.Takes infos)) stood (left node2 links2 actions2)
   takes_by infos node2 links2 actions2 comes updated kept count same = does held.owed (Outcome.Takes infos) node2 links2 actions2 comes refl
-      (λ given calls at. tt) updated (λ j place. refl) (record { links_are = kept; count = count; said = said_none actions actions2 same })
+      (λ given calls at. tt) updated (λ j place. refl) (record { links_are = kept; count = count; said = said_none actions actions2 same }) tt
 
   -- what a refusal says of what waits
   abbrev pub IsRefusedFor : Error → Type 0
@@ -191,7 +196,7 @@ module _ {C S : Type 0} (cmp : C → C → Ordering) (wire : Wire C S) (node : N
       Follows {S = S} cmp n p t held.owed Outcome.IsEarly links links2 actions actions2 →
       Does cmp wire (Happening.Heard n p t held.owed (OfVerdicts verdicts) Outcome.IsEarly) stood (left node2 links2 actions2)
   early_by e node2 links2 actions2 refused early same follows = does held.owed Outcome.IsEarly node2 links2 actions2
-      (refused.0, refused.1, early_is e _ refused.2 early) refl (λ given calls at. tt) (unchanged cmp node node2 same) (λ j place. refl) follows
+      (refused.0, refused.1, early_is e _ refused.2 early) refl (λ given calls at. tt) (unchanged cmp node node2 same) (λ j place. refl) follows tt
 
   -- another one is refused
   pub refuses_by : (e : Error) (blocked : Option Bool) (node1 node2 : NodeView C S) (links2 : List (C × Held)) (actions2 : List (Action C)) → IsRefusedFor e → is_early e ≡ false →
@@ -201,4 +206,4 @@ module _ {C S : Type 0} (cmp : C → C → Ordering) (wire : Wire C S) (node : N
   refuses_by e blocked node1 node2 links2 actions2 refused early same made blocks follows =
       does held.owed (Outcome.Breaks (breach.Invalid e) blocked) node2 links2 actions2 (refused.0, refused.1, (refused.2, early)) refl
       (blocked_done cmp wire node p t (breach.Invalid e) blocked (blocks_from cmp node1 node p (as_nanos t) blocked same blocks))
-      (makes_from cmp node1 node node2 p t (Outcome.Breaks (breach.Invalid e) blocked) same made) (λ j place. refl) follows
+      (makes_from cmp node1 node node2 p t (Outcome.Breaks (breach.Invalid e) blocked) same made) (λ j place. refl) follows tt

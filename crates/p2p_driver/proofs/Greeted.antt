@@ -193,9 +193,11 @@ module _ {C S : Type 0} (b : Base C S) where
     greets_own (Happening.StaleSetCame index primary secondary) h is right p greets = absurd cc
     greets_own (Happening.StreamLate n t) h is right p greets = absurd cc
     greets_own (Happening.LinkLate n q t) h is right p greets = absurd cc
+    greets_own (Happening.Written n q t) h is right p greets = absurd cc
+    greets_own (Happening.Spoken n q t place) h is right p greets = absurd cc
     greets_own (Happening.Heard n q t owed c outcome) h is right p greets =
         heard_greets h right n q t owed c outcome is p greets
-    greets_own (Happening.Asked n q t owed question) h is right p greets = absurd cc
+    greets_own (Happening.Asked n q t owed fits question) h is right p greets = absurd cc
     greets_own (Happening.Given infos t) h is right p greets = absurd cc
     greets_own (Happening.Barred q t taken) h is right p greets = absurd cc
     greets_own (Happening.Parted q t) h is right p greets = absurd cc

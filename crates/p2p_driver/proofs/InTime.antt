@@ -74,9 +74,11 @@ module _ {C S : Type 0} (b : Base C S) where
       (latest_kept (Happening.StaleSetCame index primary secondary) h refl) (at_most (latest_at h), in_time h right.2)
   in_time (Happening.StreamLate n t ∷ h) right = on h (in_time h right.2) (as_nanos t) right.1
   in_time (Happening.LinkLate n q t ∷ h) right = on h (in_time h right.2) (as_nanos t) right.1
+  in_time (Happening.Written n q t ∷ h) right = on h (in_time h right.2) (as_nanos t) right.1
+  in_time (Happening.Spoken n q t place ∷ h) right = on h (in_time h right.2) (as_nanos t) right.1
   in_time (Happening.Heard n q t owed cause outcome ∷ h) right =
       heard q t outcome (calls_of h) (on h (in_time h right.2) (as_nanos t) right.1)
-  in_time (Happening.Asked n q t owed question ∷ h) right = on h (in_time h right.2) (as_nanos t) right.1
+  in_time (Happening.Asked n q t owed fits question ∷ h) right = on h (in_time h right.2) (as_nanos t) right.1
   in_time (Happening.Given infos t ∷ h) right = (at_most (as_nanos t), on h (in_time h right.2) (as_nanos t) right.1)
   in_time (Happening.Barred q t taken ∷ h) right = (at_most (as_nanos t), on h (in_time h right.2) (as_nanos t) right.1)
   in_time (Happening.Parted q t ∷ h) right = on h (in_time h right.2) (as_nanos t) right.1

@@ -103,10 +103,12 @@ module _ {C S : Type 0} (b : Base C S) where
       step (Happening.StaleSetCame index primary secondary) h n refl (λ below. refl) (began_over h right.2 n) is
   began_over (Happening.StreamLate m t ∷ h) right n is = step (Happening.StreamLate m t) h n refl (λ below. refl) (began_over h right.2 n) is
   began_over (Happening.LinkLate m r t ∷ h) right n is = step (Happening.LinkLate m r t) h n refl (λ below. refl) (began_over h right.2 n) is
+  began_over (Happening.Written m r t ∷ h) right n is = step (Happening.Written m r t) h n refl (λ below. refl) (began_over h right.2 n) is
+  began_over (Happening.Spoken m r t place ∷ h) right n is = step (Happening.Spoken m r t place) h n refl (λ below. refl) (began_over h right.2 n) is
   began_over (Happening.Heard m r t owed cause outcome ∷ h) right n is =
       step (Happening.Heard m r t owed cause outcome) h n refl (λ below. refl) (began_over h right.2 n) is
-  began_over (Happening.Asked m r t owed question ∷ h) right n is =
-      step (Happening.Asked m r t owed question) h n refl (λ below. refl) (began_over h right.2 n) is
+  began_over (Happening.Asked m r t owed fits question ∷ h) right n is =
+      step (Happening.Asked m r t owed fits question) h n refl (λ below. refl) (began_over h right.2 n) is
   began_over (Happening.Given infos t ∷ h) right n is = step (Happening.Given infos t) h n refl (λ below. refl) (began_over h right.2 n) is
   began_over (Happening.Barred r t taken ∷ h) right n is = step (Happening.Barred r t taken) h n refl (λ below. refl) (began_over h right.2 n) is
   began_over (Happening.Parted r t ∷ h) right n is = step (Happening.Parted r t) h n refl (λ below. refl) (began_over h right.2 n) is
@@ -190,10 +192,12 @@ module _ {C S : Type 0} (b : Base C S) where
         still (Happening.StaleSetCame index primary secondary) h (λ p. refl) (λ n. refl) (λ n. refl) (lasting h right.2)
     lasting (Happening.StreamLate n t ∷ h) right = still (Happening.StreamLate n t) h (λ p. refl) (λ n. refl) (λ n. refl) (lasting h right.2)
     lasting (Happening.LinkLate n r t ∷ h) right = still (Happening.LinkLate n r t) h (λ p. refl) (λ n. refl) (λ n. refl) (lasting h right.2)
+    lasting (Happening.Written n r t ∷ h) right = still (Happening.Written n r t) h (λ p. refl) (λ n. refl) (λ n. refl) (lasting h right.2)
+    lasting (Happening.Spoken n r t place ∷ h) right = still (Happening.Spoken n r t place) h (λ p. refl) (λ n. refl) (λ n. refl) (lasting h right.2)
     lasting (Happening.Heard n r t owed cause outcome ∷ h) right =
         still (Happening.Heard n r t owed cause outcome) h (λ p. refl) (λ n. refl) (λ n. refl) (lasting h right.2)
-    lasting (Happening.Asked n r t owed question ∷ h) right =
-        still (Happening.Asked n r t owed question) h (λ p. refl) (λ n. refl) (λ n. refl) (lasting h right.2)
+    lasting (Happening.Asked n r t owed fits question ∷ h) right =
+        still (Happening.Asked n r t owed fits question) h (λ p. refl) (λ n. refl) (λ n. refl) (lasting h right.2)
     lasting (Happening.Given infos t ∷ h) right = still (Happening.Given infos t) h (λ p. refl) (λ n. refl) (λ n. refl) (lasting h right.2)
     lasting (Happening.Barred r t taken ∷ h) right = still (Happening.Barred r t taken) h (λ p. refl) (λ n. refl) (λ n. refl) (lasting h right.2)
     lasting (Happening.Parted r t ∷ h) right = still (Happening.Parted r t) h (λ p. refl) (λ n. refl) (λ n. refl) (lasting h right.2)

@@ -79,6 +79,8 @@ module _ {C S : Type 0} (t : Duration) (h : List (Happening C S)) where
   late_calls [] are = refl
   late_calls (Happening.StreamLate n at ∷ es) are = late_calls es are.1
   late_calls (Happening.LinkLate n p at ∷ es) are = late_calls es are.1
+  late_calls (Happening.Written n p at ∷ es) are = absurd are.0
+  late_calls (Happening.Spoken n p at place ∷ es) are = absurd are.0
   late_calls (Happening.Arrived n origin at space ∷ es) are = absurd are.0
   late_calls (Happening.Claimed n p origin at ∷ es) are = absurd are.0
   late_calls (Happening.Refused n p at why ∷ es) are = absurd are.0
@@ -89,7 +91,7 @@ module _ {C S : Type 0} (t : Duration) (h : List (Happening C S)) where
   late_calls (Happening.SetCame at index primary secondary torn ∷ es) are = absurd are.0
   late_calls (Happening.StaleSetCame index primary secondary ∷ es) are = absurd are.0
   late_calls (Happening.Heard n p at owed cause outcome ∷ es) are = absurd are.0
-  late_calls (Happening.Asked n p at owed question ∷ es) are = absurd are.0
+  late_calls (Happening.Asked n p at owed fits question ∷ es) are = absurd are.0
   late_calls (Happening.Given infos at ∷ es) are = absurd are.0
   late_calls (Happening.Barred p at taken ∷ es) are = absurd are.0
   late_calls (Happening.Parted p at ∷ es) are = absurd are.0
@@ -98,9 +100,11 @@ module _ {C S : Type 0} (t : Duration) (h : List (Happening C S)) where
 
   asked_calls : (es : List (Happening C S)) → AreAskedAt t es → calls_of (es ++ h) ≡ calls_of h
   asked_calls [] are = refl
-  asked_calls (Happening.Asked n p at owed question ∷ es) are = asked_calls es are.1
+  asked_calls (Happening.Asked n p at owed fits question ∷ es) are = asked_calls es are.1
   asked_calls (Happening.StreamLate n at ∷ es) are = absurd are.0
   asked_calls (Happening.LinkLate n p at ∷ es) are = absurd are.0
+  asked_calls (Happening.Written n p at ∷ es) are = absurd are.0
+  asked_calls (Happening.Spoken n p at place ∷ es) are = absurd are.0
   asked_calls (Happening.Arrived n origin at space ∷ es) are = absurd are.0
   asked_calls (Happening.Claimed n p origin at ∷ es) are = absurd are.0
   asked_calls (Happening.Refused n p at why ∷ es) are = absurd are.0

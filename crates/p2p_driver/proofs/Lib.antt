@@ -14,6 +14,7 @@ mod StreamHistory
 mod LinkHistory
 mod Unused
 mod Metered
+mod Placed
 mod Paced
 mod Standing
 mod Status
@@ -31,6 +32,7 @@ mod DrivingLinks
 mod DrivingApplication
 mod DrivingFrames
 mod DrivingReads
+mod DrivingSays
 mod DrivingVerdicts
 mod Payloads
 mod Reserved
@@ -44,6 +46,7 @@ mod Asked
 mod Signatures
 mod Little
 mod Turns
+mod Queued
 mod Spared
 mod Later
 mod Early

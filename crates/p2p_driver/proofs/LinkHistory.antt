@@ -1,6 +1,6 @@
 -- The links of peers after one more happening, and what was said.
 use Rattle.std.proofs.Common.{◌≡◌, ℕ, ◌+◌, Bool, true, false, ◌||◌, ◌&&◌, cond, List, [], ◌∷◌, ◌++◌, Option, Some, None, refl, sym, ◌∙◌, ap, arith}
-use Rattle.std.specs.Prelude.{if◌then◌else◌, option_map, unwrap_or}
+use Rattle.std.specs.Prelude.{if◌then◌else◌, option_map, unwrap_or, drop}
 use Rattle.std.specs.List.{list_any, count_by}
 use Rattle.std.proofs.lemmas.List.Sums.{sum_by-cons}
 use Rattle.std.specs.declared.time.Duration.{Duration}
@@ -17,8 +17,8 @@ use Rattle.p2p_discovery.specs.Judgement.{first_of}
 use Rattle.p2p_driver.specs.Questions.{asked_after, counted}
 use Rattle.p2p_driver.specs.Frames.{Cause, Outcome, waiting_by}
 use Rattle.p2p_driver.specs.Looked.{LookedView}
-use Rattle.p2p_driver.specs.Happenings.{Happening, link_at, link_since, opened_by, ends_by, closes_by, greets_by, heard_by, phase_of, owed_by, tried_by, index_by, newest_by, index_tried, newest_tried, tried_with, kept_of, last_heard, last_tried, last_looked, asked_in, is_closing, is_greeted, is_heard, looked_by, looks_by, heard_as}
-use Rattle.p2p_driver.specs.Links.{link_with, greeted, unless_closing, hearing, opened, asking, allowing, closed}
+use Rattle.p2p_driver.specs.Happenings.{Happening, link_at, link_since, opened_by, ends_by, closes_by, greets_by, heard_by, phase_of, owed_by, tried_by, index_by, newest_by, index_tried, newest_tried, tried_with, kept_of, last_heard, last_tried, last_looked, asked_in, is_closing, is_greeted, is_heard, looked_by, looks_by, heard_as, says_on, said_as, said_with, writes_by, unwritten_in}
+use Rattle.p2p_driver.specs.Links.{link_with, greeted, unless_closing, hearing, opened, asking, allowing, saying, with_said, writing, closed}
 
 -- a phase once the link was closed, or greeted on
 abbrev pub phase_after : Bool → Bool → Phase → Phase
@@ -46,7 +46,7 @@ of_open false true is = refl
 of_open false false is = absurd cc
 
 -- what one happening does to a link: it is closed, its peer greets, or is heard, questions are owed, one is due, a frame
--- may be handed in, or none
+-- may be handed in, or none, a frame is written, and one is said
 pub record Touch : Type 0 where
   pub closes : Bool
   pub greets : Bool
@@ -54,14 +54,20 @@ pub record Touch : Type 0 where
   pub owed : Option ℕ
   pub tried : Option (Duration × Option Question)
   pub looked : Option (Option LookedView)
+  pub written : Bool
+  pub said : Option Duration
 
 -- nothing
 abbrev pub untouched : Touch
-untouched = record { closes = false; greets = false; heard = None; owed = None; tried = None; looked = None }
+untouched = record { closes = false; greets = false; heard = None; owed = None; tried = None; looked = None; written = false; said = None }
 
 -- it is closed, or not
 abbrev pub closing_if : Bool → Touch
-closing_if b = record { closes = b; greets = false; heard = None; owed = None; tried = None; looked = None }
+closing_if b = record { closes = b; greets = false; heard = None; owed = None; tried = None; looked = None; written = false; said = None }
+
+-- a frame is written, or not
+abbrev pub writing_if : Bool → Touch
+writing_if b = record { closes = false; greets = false; heard = None; owed = None; tried = None; looked = None; written = b; said = None }
 
 -- when its peer was heard last, how much is owed, what waits, and what is kept of its questions
 abbrev pub heard_after : Option (Duration × Option Waiting) → Duration → Duration
@@ -84,6 +90,9 @@ abbrev pub tried_after : Option (Duration × Option Question) → Asked → Aske
 tried_after None asked = asked
 tried_after (Some tried) asked = asked_after tried.0 tried.1 asked
 
+abbrev pub unwritten_after : Bool → Option Duration → List Duration → List Duration
+unwritten_after written said unwritten = with_said said (if written then drop 1 unwritten else unwritten)
+
 abbrev pub touched : Touch → Held → Held
 touched touch held = record {
   number = held.number;
@@ -94,6 +103,7 @@ touched touch held = record {
   waiting = waiting_after touch.heard touch.closes (phase_after touch.closes touch.greets held.phase) held.waiting;
   asked = tried_after touch.tried held.asked;
   looked = looked_after touch.looked touch.closes (phase_after touch.closes touch.greets held.phase) held.looked;
+  unwritten = unwritten_after touch.written touch.said held.unwritten;
 }
 
 -- a link once it ended, was closed, greeted on, or heard
@@ -117,6 +127,22 @@ closed_link true None = refl
 closed_link true (Some held) = refl
 closed_link false o = unchanged_link o
 
+-- a frame is written, or not
+pub written_link : (b : Bool) (o : Option Held) → link_after false (writing_if b) o ≡ (if b then option_map writing o else o)
+written_link true None = refl
+written_link true (Some held) = refl
+written_link false o = unchanged_link o
+
+-- .. or one is said
+abbrev pub saying_if : Option Duration → Touch
+saying_if said = record { closes = false; greets = false; heard = None; owed = None; tried = None; looked = None; written = false; said = said }
+
+pub spoken_link : (b : Bool) (t : Duration) (o : Option Held) →
+    link_after false (saying_if (if b then Some t else None)) o ≡ (if b then option_map (saying (Some t)) o else o)
+spoken_link true t None = refl
+spoken_link true t (Some held) = refl
+spoken_link false t o = unchanged_link o
+
 -- nothing is kept of nothing
 pub nothing_kept : {A : Type 0} (ph : Phase) → unless_closing {A = A} ph None ≡ None
 nothing_kept phase.Greeting = refl
@@ -132,7 +158,9 @@ pub opened_link : (b : Bool) (t : Duration) (owed : ℕ) (question : Option Ques
       owed = if b then Some owed else None;
       tried = if b then Some (t, question) else None;
       looked = if b then Some None else None;
-    }) o ≡ (if b then option_map (λ h. opened t owed (asked_after t question h.asked) h) o else o)
+      written = false;
+      said = if b then said_with t question else None;
+    }) o ≡ (if b then option_map (λ h. saying (said_with t question) (opened t owed (asked_after t question h.asked) h)) o else o)
 opened_link true t owed question None = refl
 opened_link true t owed question (Some held) = λ i. Some (record held {
   phase = greeted held.phase;
@@ -141,11 +169,12 @@ opened_link true t owed question (Some held) = λ i. Some (record held {
   waiting = nothing_kept {A = Waiting} (greeted held.phase) i;
   asked = asked_after t question held.asked;
   looked = nothing_kept {A = LookedView} (greeted held.phase) i;
+  unwritten = with_said (said_with t question) held.unwritten;
 })
 opened_link false t owed question o = unchanged_link o
 
--- .. or heard
-pub heard_link : (b : Bool) (t : Duration) (owed : ℕ) (w : Option Waiting) (o : Option Held) →
+-- .. or heard, and a frame said, if one is
+pub heard_link : (b : Bool) (t : Duration) (owed : ℕ) (w : Option Waiting) (said : Option Duration) (o : Option Held) →
     link_after false (record {
       closes = false;
       greets = false;
@@ -153,15 +182,18 @@ pub heard_link : (b : Bool) (t : Duration) (owed : ℕ) (w : Option Waiting) (o 
       owed = if b then Some owed else None;
       tried = if b then None else None;
       looked = if b then Some None else None;
-    }) o ≡ (if b then option_map (hearing t owed w) o else o)
-heard_link true t owed w None = refl
-heard_link true t owed w (Some held) = ap (λ l. Some (record held {
+      written = false;
+      said = if b then said else None;
+    }) o ≡ (if b then option_map (λ h. saying said (hearing t owed w h)) o else o)
+heard_link true t owed w said None = refl
+heard_link true t owed w said (Some held) = ap (λ l. Some (record held {
   heard = t;
   owed = owed;
   waiting = unless_closing held.phase w;
   looked = l;
+  unwritten = with_said said held.unwritten;
 })) (nothing_kept {A = LookedView} held.phase)
-heard_link false t owed w o = unchanged_link o
+heard_link false t owed w said o = unchanged_link o
 
 -- .. or asked
 pub asked_link : (b : Bool) (t : Duration) (owed : ℕ) (question : Option Question) (o : Option Held) →
@@ -172,7 +204,9 @@ pub asked_link : (b : Bool) (t : Duration) (owed : ℕ) (question : Option Quest
       owed = if b then Some owed else None;
       tried = if b then Some (t, question) else None;
       looked = None;
-    }) o ≡ (if b then option_map (λ h. asking owed (asked_after t question h.asked) h) o else o)
+      written = false;
+      said = if b then said_with t question else None;
+    }) o ≡ (if b then option_map (λ h. saying (said_with t question) (asking owed (asked_after t question h.asked) h)) o else o)
 asked_link true t owed question None = refl
 asked_link true t owed question (Some held) = refl
 asked_link false t owed question o = unchanged_link o
@@ -186,6 +220,8 @@ cut_link : (b : Bool) (o : Option Held) →
       owed = None;
       tried = if b then None else None;
       looked = if b then Some None else None;
+      written = false;
+      said = if b then None else None;
     }) o
     ≡ (if b then option_map closed o else o)
 cut_link true None = refl
@@ -201,6 +237,8 @@ allowed_link : (b : Bool) (l : LookedView) (o : Option Held) →
       owed = None;
       tried = if b then None else None;
       looked = if b then Some (Some l) else None;
+      written = false;
+      said = if b then None else None;
     }) o ≡ (if b then option_map (allowing l) o else o)
 allowed_link true l None = refl
 allowed_link true l (Some held) = refl
@@ -215,23 +253,25 @@ pub outcome_link : {C S : Type 0} (b : Bool) (t : Duration) (owed : ℕ) (outcom
       owed = if is_heard outcome && b then Some owed else None;
       tried = if b then tried_with t outcome else None;
       looked = if b then Some (looked_by outcome) else None;
+      written = false;
+      said = if b then said_as t outcome else None;
     }) o ≡ (if b then option_map (heard_as t owed outcome) o else o)
-outcome_link b t owed (Outcome.Waits waiting) o = heard_link b t owed (Some waiting) o
+outcome_link b t owed (Outcome.Waits waiting) o = heard_link b t owed (Some waiting) None o
 outcome_link b t owed (Outcome.Greets info question) o = opened_link b t owed question o
-outcome_link b t owed (Outcome.Takes infos) o = heard_link b t owed None o
-outcome_link b t owed (Outcome.Answers reply) o = heard_link b t owed None o
-outcome_link b t owed (Outcome.Delivers message) o = heard_link b t owed None o
-outcome_link b t owed Outcome.Ignores o = heard_link b t owed None o
+outcome_link b t owed (Outcome.Takes infos) o = heard_link b t owed None None o
+outcome_link b t owed (Outcome.Answers reply) o = heard_link b t owed None (Some t) o
+outcome_link b t owed (Outcome.Delivers message) o = heard_link b t owed None None o
+outcome_link b t owed Outcome.Ignores o = heard_link b t owed None None o
 outcome_link b t owed (Outcome.Breaks breach blocked) o = cut_link b o
 outcome_link b t owed Outcome.IsEarly o = cut_link b o
 outcome_link b t owed Outcome.LacksChannel o = cut_link b o
-outcome_link b t owed (Outcome.Delays next) o = heard_link b t owed None o
+outcome_link b t owed (Outcome.Delays next) o = heard_link b t owed None None o
 outcome_link b t owed (Outcome.Reads kind looked) o = allowed_link b looked o
 
--- what is kept of a link, by how far it is, when its peer was heard last, how much is owed, what waits, its questions, and
--- the frame that may be handed in
-abbrev kept_with : ℕ → Duration → Phase → Duration × Option Waiting → ℕ → Asked → Option LookedView → Held
-kept_with n t ph last owed asked looked = record {
+-- what is kept of a link, by how far it is, when its peer was heard last, how much is owed, what waits, its questions,
+-- the frame that may be handed in, and the frames that aren't written
+abbrev kept_with : ℕ → Duration → Phase → Duration × Option Waiting → ℕ → Asked → Option LookedView → List Duration → Held
+kept_with n t ph last owed asked looked unwritten = record {
   number = n;
   phase = ph;
   since = t;
@@ -240,6 +280,7 @@ kept_with n t ph last owed asked looked = record {
   waiting = unless_closing ph last.1;
   asked = asked;
   looked = unless_closing ph looked;
+  unwritten = unwritten;
 }
 
 abbrev last_looked_after : Option (Option LookedView) → Option LookedView → Option LookedView
@@ -277,10 +318,12 @@ heard_step None last = refl
 
 kept_step : (n : ℕ) (t : Duration) (c g : Bool) (heard : Option (Duration × Option Waiting)) (o : Option ℕ)
     (tried : Option (Duration × Option Question)) (looked : Option (Option LookedView)) (ph : Phase) (last : Duration × Option Waiting) (owed : ℕ)
-    (asked : Asked) (last_seen : Option LookedView) →
+    (asked : Asked) (last_seen : Option LookedView) (written : Bool) (said : Option Duration) (unwritten : List Duration) →
     kept_with n t (phase_after c g ph) (last_after heard last) (owed_now o owed) (tried_after tried asked) (last_looked_after looked last_seen)
-    ≡ touched (record { closes = c; greets = g; heard = heard; owed = o; tried = tried; looked = looked }) (kept_with n t ph last owed asked last_seen)
-kept_step n t c g heard o tried looked ph last owed asked last_seen = λ i. record {
+    (unwritten_after written said unwritten)
+    ≡ touched (record { closes = c; greets = g; heard = heard; owed = o; tried = tried; looked = looked; written = written; said = said })
+    (kept_with n t ph last owed asked last_seen unwritten)
+kept_step n t c g heard o tried looked ph last owed asked last_seen written said unwritten = λ i. record {
   number = n;
   phase = phase_after c g ph;
   since = t;
@@ -289,6 +332,7 @@ kept_step n t c g heard o tried looked ph last owed asked last_seen = λ i. reco
   waiting = waiting_step c g heard ph last i;
   asked = tried_after tried asked;
   looked = looked_step c g looked ph last_seen i;
+  unwritten = unwritten_after written said unwritten;
 }
 
 -- what is kept of questions, by its parts
@@ -310,6 +354,8 @@ module _ {C S : Type 0} (s : Settings C S) where
     owed = owed_by s p e;
     tried = tried_by s p e;
     looked = looks_by s p e;
+    written = writes_by s p e;
+    said = says_on s p e;
   }
 
   looks_step : (e : Happening C S) (looked : Option (Option LookedView)) (found : Option (Option LookedView × List (Happening C S))) →
@@ -378,9 +424,10 @@ module _ {C S : Type 0} (s : Settings C S) where
       (last_step t e (heard_by s p e) (last_with (heard_by s p) since) i)
       (owed_step e (owed_by s p e) (last_with (owed_by s p) since) i)
       (asked_step p t e since i)
-      (looks_step e (looks_by s p e) (last_with (looks_by s p) since) i))
+      (looks_step e (looks_by s p e) (last_with (looks_by s p) since) i)
+      (unwritten_in s p t (e ∷ since)))
       ∙ kept_step n t (closes_by s p e) (greets_by s p e) (heard_by s p e) (owed_by s p e) (tried_by s p e) (looks_by s p e) ph last owed
-      (asked_in s p t since) seen
+      (asked_in s p t since) seen (writes_by s p e) (says_on s p e) (unwritten_in s p t since)
 
   later : (p : C) (e : Happening C S) (found : Option ((ℕ × Duration) × List (Happening C S))) →
       link_since s p (found_with None e found) ≡ link_after (ends_by s p e) (touch_by p e) (link_since s p found)
@@ -429,11 +476,21 @@ module _ {C S : Type 0} (s : Settings C S) where
       ∙ outcome_link (same s q p) t owed outcome (link_at s p h)
 
   -- one by which a question was due for q
-  pub link_asks : (p q : C) (n : ℕ) (t : Duration) (owed : ℕ) (question : Option Question) (h : List (Happening C S)) →
-      link_at s p (Happening.Asked n q t owed question ∷ h)
-      ≡ (if same s q p then option_map (λ x. asking owed (asked_after t question x.asked) x) (link_at s p h) else link_at s p h)
-  link_asks p q n t owed question h = link_later p (Happening.Asked n q t owed question) h refl
+  pub link_asks : (p q : C) (n : ℕ) (t : Duration) (owed : ℕ) (fits : Bool) (question : Option Question) (h : List (Happening C S)) →
+      link_at s p (Happening.Asked n q t owed fits question ∷ h)
+      ≡ (if same s q p then option_map (λ x. saying (said_with t question) (asking owed (asked_after t question x.asked) x)) (link_at s p h) else link_at s p h)
+  link_asks p q n t owed fits question h = link_later p (Happening.Asked n q t owed fits question) h refl
       ∙ asked_link (same s q p) t owed question (link_at s p h)
+
+  -- one by which a frame was written
+  pub link_writes : (p q : C) (n : ℕ) (t : Duration) (h : List (Happening C S)) →
+      link_at s p (Happening.Written n q t ∷ h) ≡ (if same s q p then option_map writing (link_at s p h) else link_at s p h)
+  link_writes p q n t h = link_later p (Happening.Written n q t) h refl ∙ written_link (same s q p) (link_at s p h)
+
+  -- .. or one was said
+  pub link_speaks : (p q : C) (n : ℕ) (t : Duration) (place : ℕ) (h : List (Happening C S)) →
+      link_at s p (Happening.Spoken n q t place ∷ h) ≡ (if same s q p then option_map (saying (Some t)) (link_at s p h) else link_at s p h)
+  link_speaks p q n t place h = link_later p (Happening.Spoken n q t place) h refl ∙ spoken_link (same s q p) t (link_at s p h)
 
 -- WHAT WAS SAID
 

@@ -2,7 +2,7 @@
 use Rattle.std.proofs.Common.{◌≡◌, ◌≤◌, ◌<◌, ◌+◌, ℕ, Bool, true, false, cond, List, [], ◌∷◌}
 use Rattle.std.proofs.Common.{Option, Some, None, refl, sym, ◌∙◌, ap, subst, arith}
 use Rattle.std.proofs.Common.{Less, Equal, Greater, inl, inr}
-use Rattle.std.specs.Prelude.{IfSome, IfNone, option_map, unwrap_or, length, if◌then◌else◌, max, nat_le, ◌&&◌}
+use Rattle.std.specs.Prelude.{IfSome, IfNone, is_some, option_map, unwrap_or, length, if◌then◌else◌, max, nat_le, ◌&&◌}
 use Rattle.std.specs.Duration.{as_nanos}
 use Rattle.std.proofs.lemmas.Bool.Decides.{nat_tests}
 use Rattle.std.specs.declared.cmp.Ordering.{Ordering}
@@ -23,8 +23,7 @@ use Rattle.p2p_driver.specs.declared.links.Asked.{Asked}
 use Rattle.p2p_driver.specs.declared.links.Held.{Held}
 use Rattle.p2p_driver.specs.declared.links.Phase.{Phase}
 use Rattle.p2p_driver.specs.declared.links.Phase.TheVariants as phase
-use Rattle.p2p_driver.specs.declared.links.Waiting.{Waiting}
-use Rattle.p2p_driver.specs.Links.{link_of, need_of, need_at, needs, greeted, is_greeting, one_if_greeting, opened, hearing, asking, closed, is_open, is_to_ask, to_ask}
+use Rattle.p2p_driver.specs.Links.{link_of, need_of, need_at, needs, greeted, is_greeting, one_if_greeting, opened, hearing, asking, saying, closed, is_open, is_to_ask, to_ask}
 use Rattle.p2p_driver.specs.Links.{AreInverse, AreNumbered, AreAlike}
 
 -- a number is equal to itself
@@ -99,34 +98,10 @@ module _ {C : Type 0} {cmp : C → C → Ordering} (total : IsTotalOrder cmp) wh
     written_needs = ap (λ ls. needs ls + need_of held.phase) is
         ∙ sum_by-set_value (λ h. need_of h.phase) (is_at (cmp peer)) links held (f held) has
 
-  pub needs_closed : (links new : List (C × Held)) (peer : C) (held : Held) →
-      link_of cmp links peer ≡ Some held →
-      new ≡ set_value (is_at (cmp peer)) links (closed held) →
-      needs new + need_at (link_of cmp links peer) ≡ needs links
-  needs_closed links new peer held has is =
-      let e : need_at (link_of cmp links peer) ≡ need_of held.phase = ap need_at has in
-      omega (arith, written_needs links new closed peer held has is)
-
   once_greeted : (p : Phase) → need_of (greeted p) ≡ need_of p + (if is_greeting p then 1 else 0)
   once_greeted phase.Greeting = refl
   once_greeted phase.Open = refl
   once_greeted phase.Closing = refl
-
-  pub needs_opened : (t : Duration) (owed : ℕ) (asked : Asked) (links new : List (C × Held)) (peer : C) (held : Held) →
-      link_of cmp links peer ≡ Some held →
-      new ≡ set_value (is_at (cmp peer)) links (opened t owed asked held) →
-      needs new ≡ needs links + one_if_greeting (link_of cmp links peer)
-  needs_opened t owed asked links new peer held has is =
-      let e : one_if_greeting (link_of cmp links peer) ≡ (if is_greeting held.phase then 1 else 0) =
-      ap one_if_greeting has in
-      omega (arith, written_needs links new (opened t owed asked) peer held has is, once_greeted held.phase)
-
-  pub needs_heard : (t : Duration) (owed : ℕ) (waiting : Option Waiting) (links new : List (C × Held)) (peer : C) (held : Held) →
-      link_of cmp links peer ≡ Some held →
-      new ≡ set_value (is_at (cmp peer)) links (hearing t owed waiting held) →
-      needs new ≡ needs links
-  needs_heard t owed waiting links new peer held has is =
-      omega (arith, written_needs links new (hearing t owed waiting) peer held has is)
 
   -- a link is written over, if there is one: of what is there, and what isn't
   module _ (links new : List (C × Held)) (f : Held → Held) (peer : C)
@@ -160,6 +135,55 @@ module _ {C : Type 0} {cmp : C → C → Ordering} (total : IsTotalOrder cmp) wh
         go None has = ap needs (none has)
         go (Some held) has = omega (arith, written_needs links new f peer held has (noted held has), same held)
 
+  -- .. and was closed
+  pub needs_closed : (links new : List (C × Held)) (peer : C) (held : Held) →
+      link_of cmp links peer ≡ Some held →
+      new ≡ set_value (is_at (cmp peer)) links (closed held) →
+      needs new + need_at (link_of cmp links peer) ≡ needs links
+  needs_closed links new peer held has is =
+      let e : need_at (link_of cmp links peer) ≡ need_of held.phase = ap need_at has in
+      omega (arith, e, written_needs links new closed peer held has is)
+
+  -- .. or was greeted on, or closed, if it was there
+  pub noted_opened : (links new : List (C × Held)) (peer : C) (t : Duration) (owed : ℕ) (asked : Asked) →
+      ((held : Held) → link_of cmp links peer ≡ Some held → new ≡ set_value (is_at (cmp peer)) links (opened t owed asked held)) →
+      (link_of cmp links peer ≡ None → new ≡ links) → needs new ≡ needs links + one_if_greeting (link_of cmp links peer)
+  noted_opened links new peer t owed asked noted none = go (link_of cmp links peer) refl
+    where
+      go : (o : Option Held) → link_of cmp links peer ≡ o → needs new ≡ needs links + one_if_greeting (link_of cmp links peer)
+      go None has = let e : one_if_greeting (link_of cmp links peer) ≡ 0 = ap one_if_greeting has in
+          let same : needs new ≡ needs links = ap needs (none has) in omega (arith, e, same)
+      go (Some held) has = let e : one_if_greeting (link_of cmp links peer) ≡ (if is_greeting held.phase then 1 else 0) = ap one_if_greeting has in
+          omega (arith, e, written_needs links new (opened t owed asked) peer held has (noted held has), once_greeted held.phase)
+
+  pub noted_closed : (links new : List (C × Held)) (peer : C) →
+      ((held : Held) → link_of cmp links peer ≡ Some held → new ≡ set_value (is_at (cmp peer)) links (closed held)) →
+      (link_of cmp links peer ≡ None → new ≡ links) → needs new + need_at (link_of cmp links peer) ≡ needs links
+  noted_closed links new peer noted none = go (link_of cmp links peer) refl
+    where
+      go : (o : Option Held) → link_of cmp links peer ≡ o → needs new + need_at (link_of cmp links peer) ≡ needs links
+      go None has = let e : need_at (link_of cmp links peer) ≡ 0 = ap need_at has in
+          let same : needs new ≡ needs links = ap needs (none has) in omega (arith, e, same)
+      go (Some held) has = needs_closed links new peer held has (noted held has)
+
+  -- as many are to be asked, once a frame is said on one
+  pub noted_to_ask : (tick now : ℕ) (links new : List (C × Held)) (f : Held → Held) (peer : C) →
+      ((held : Held) → link_of cmp links peer ≡ Some held → new ≡ set_value (is_at (cmp peer)) links (f held)) →
+      (link_of cmp links peer ≡ None → new ≡ links) → ((held : Held) → is_to_ask tick now (f held) ≡ is_to_ask tick now held) →
+      to_ask tick now new ≡ to_ask tick now links
+  noted_to_ask tick now links new f peer noted none same = go (link_of cmp links peer) refl
+    where
+      count : Held → ℕ
+      count h = cond (is_to_ask tick now h) 1 0
+
+      go : (o : Option Held) → link_of cmp links peer ≡ o → to_ask tick now new ≡ to_ask tick now links
+      go None has = ap (to_ask tick now) (none has)
+      go (Some held) has = let sums = sum_by-set_value count (is_at (cmp peer)) links held (f held) has in
+          let one : count (f held) ≡ count held = ap (λ b. cond b 1 0) (same held) in
+          let is : to_ask tick now new ≡ to_ask tick now (set_value (is_at (cmp peer)) links (f held)) =
+          ap (to_ask tick now) (noted held has) in
+          omega (arith, sums, one, is)
+
   -- one fewer is to be asked, once one was that is to be
   pub fewer_to_ask : (tick now owed : ℕ) (asked : Asked) (links new : List (C × Held)) (peer : C) →
       ((held : Held) → link_of cmp links peer ≡ Some held → new ≡ set_value (is_at (cmp peer)) links (asking owed asked held)) →
@@ -186,6 +210,42 @@ module _ {C : Type 0} {cmp : C → C → Ordering} (total : IsTotalOrder cmp) wh
           let same : to_ask tick now new ≡ to_ask tick now (set_value (is_at (cmp peer)) links (asking owed asked held)) =
           ap (to_ask tick now) (noted held has) in
           omega (arith, one, none, sums, same)
+
+  -- a frame is said on a link, or nothing changes
+  module _ (links new : List (C × Held)) (t : Duration) (peer : C) (result : Bool)
+      (said : result ≡ true → (held : Held) → link_of cmp links peer ≡ Some held →
+      new ≡ set_value (is_at (cmp peer)) links (saying (Some t) held))
+      (linked : result ≡ true → is_some (link_of cmp links peer) ≡ true) (same : result ≡ false → new ≡ links) where
+    none : result ≡ true → link_of cmp links peer ≡ None → new ≡ links
+    none is at = absurd (differ (sym (linked is) ∙ ap is_some at))
+      where
+        differ : true ≡ false → ⊥
+        differ e = cc
+
+    pub said_at : result ≡ true → (q : C) → link_of cmp new q
+        ≡ cond (is_at (cmp peer) q) (option_map (saying (Some t)) (link_of cmp links q)) (link_of cmp links q)
+    said_at is = noted_at links new (saying (Some t)) peer (said is) (none is)
+
+    pub said_count : length new ≡ length links
+    said_count = go result refl
+      where
+        go : (b : Bool) → result ≡ b → length new ≡ length links
+        go true is = noted_count links new (saying (Some t)) peer (said is) (none is)
+        go false is = ap length (same is)
+
+    pub said_needs : needs new ≡ needs links
+    said_needs = go result refl
+      where
+        go : (b : Bool) → result ≡ b → needs new ≡ needs links
+        go true is = noted_needs links new (saying (Some t)) peer (said is) (none is) (λ h. refl)
+        go false is = ap needs (same is)
+
+    pub said_to_ask : (tick now : ℕ) → to_ask tick now new ≡ to_ask tick now links
+    said_to_ask tick now = go result refl
+      where
+        go : (b : Bool) → result ≡ b → to_ask tick now new ≡ to_ask tick now links
+        go true is = noted_to_ask tick now links new (saying (Some t)) peer (said is) (none is) (λ h. refl)
+        go false is = ap (to_ask tick now) (same is)
 
   pub needs_put : (links new : List (C × Held)) (peer : C) (held : Held) →
       IsStrictlySortedBy cmp (keys_of links) → link_of cmp links peer ≡ None →
@@ -278,6 +338,16 @@ module _ {C : Type 0} {cmp : C → C → Ordering} (total : IsTotalOrder cmp) wh
         before true (Some g) h is =
             (g, refl, sym (keeps g) ∙ ap (λ o. unwrap_or (option_map (λ h. h.number) o) 0) is)
         before false (Some g) h is = (g, refl, ap (λ o. unwrap_or (option_map (λ h. h.number) o) 0) is)
+
+    -- .. on which a frame is said, or nothing changes
+    pub inverse_said : (new : List (C × Held)) (t : Duration) (peer : C) (result : Bool) →
+        (result ≡ true → (held : Held) → link_of cmp links peer ≡ Some held → new ≡ set_value (is_at (cmp peer)) links (saying (Some t) held)) →
+        (result ≡ true → is_some (link_of cmp links peer) ≡ true) → (result ≡ false → new ≡ links) → AreInverse cmp new at
+    inverse_said new t peer result said linked same = go result refl
+      where
+        go : (b : Bool) → result ≡ b → AreInverse cmp new at
+        go true is = inverse_on new (saying (Some t)) peer (λ h. refl) (said_at links new t peer result said linked same is)
+        go false is = subst (λ ls. AreInverse cmp ls at) (sym (same is)) inverse
 
     -- one more link
     module _ (new : List (C × Held)) (at2 : ℕ → Option C) (peer : C) (held : Held)

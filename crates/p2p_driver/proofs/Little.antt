@@ -135,8 +135,10 @@ module _ {C S : Type 0} (b : Base C S) (h : List (Happening C S)) where
   few_said (Happening.StaleSetCame index primary secondary) is = omega arith
   few_said (Happening.StreamLate n t) is = omega arith
   few_said (Happening.LinkLate n p t) is = let few = shut_few p (why_late (link_at d p h)) (link_at d p h) in omega (arith, few)
+  few_said (Happening.Written n p t) is = omega arith
+  few_said (Happening.Spoken n p t place) is = omega arith
   few_said (Happening.Heard n p t owed cause outcome) is = answered_few n p outcome (link_at d p h)
-  few_said (Happening.Asked n p t owed question) is = let few = asked_few C n question in omega (arith, few)
+  few_said (Happening.Asked n p t owed fits question) is = let few = asked_few C n question in omega (arith, few)
   few_said (Happening.Given infos t) is = omega arith
   few_said (Happening.Barred p t taken) is = let few = shut_few p why.Blocked (link_at d p h) in omega (arith, few)
   few_said (Happening.Parted p t) is = let few = shut_few p why.Application (link_at d p h) in omega (arith, few)

@@ -1,5 +1,5 @@
 -- What is kept of the frames that were read of links, after one more happening.
-use Rattle.std.proofs.Common.{◌≡◌, ℕ, zero, suc, ◌==◌, ◌≢◌, ◌≤◌, Bool, true, false, ◌||◌, ◌&&◌, List, [], ◌∷◌, ◌++◌, Option, Some, None, refl, sym, ◌∙◌, ap, subst, arith}
+use Rattle.std.proofs.Common.{◌≡◌, ℕ, zero, suc, ◌+◌, ◌==◌, ◌≢◌, ◌≤◌, Bool, true, false, ◌||◌, ◌&&◌, List, [], ◌∷◌, ◌++◌, Option, Some, None, refl, sym, ◌∙◌, ap, subst, arith}
 use Rattle.std.specs.Prelude.{if◌then◌else◌, length, replicate, slice_index}
 use Rattle.std.specs.List.{list_any}
 use Rattle.std.specs.Option.{IsSomeAnd}
@@ -111,14 +111,14 @@ module _ {C S : Type 0} (pace : Pace) where
       since_stays now n e (last_with (begins_as n) h) (reads_of reads n) (begins n) (ends n) (none n) (kept n)
 
   -- NOTHING WAS READ of a link that begins
-  none_read : (now n k : ℕ) → k ≡ length pace.channels.items → IsMetered {C = C} {S = S} pace now n [] (unread k)
+  none_read : (now n k : ℕ) → k ≡ length pace.channels.items + length pace.channels.items → IsMetered {C = C} {S = S} pace now n [] (unread k)
   none_read now n k is = record {
     count = length-replicate k 0 ∙ is;
     kept = λ place rate has. subst (IsKeptAt rate now []) (sym (kept_zero place k)) (kept_empty _ _ now);
   }
 
   pub metered_begins : (now n k : ℕ) (p : C) (t draw : Duration) (h : List (Happening C S)) (reads reads2 : List (ℕ × MetersView)) →
-      k ≡ length pace.channels.items → ((j : ℕ) → reads_of reads2 j ≡ (if j == n then Some (unread k) else reads_of reads j)) →
+      k ≡ length pace.channels.items + length pace.channels.items → ((j : ℕ) → reads_of reads2 j ≡ (if j == n then Some (unread k) else reads_of reads j)) →
       AreMetered pace now h reads → AreMetered pace now (Happening.Proved n p t draw ∷ h) reads2
   metered_begins now n k p t draw h reads reads2 is tied kept j = go (n == j) refl
     where
@@ -209,24 +209,23 @@ module _ {C S : Type 0} (pace : Pace) where
           differs : (other : Option ℕ) → is_of other (kind_at_rate place) ≡ false → other ≢ place
           differs other unlike at = let yes = ap (λ x. is_of x (kind_at_rate place)) at ∙ of_itself place in absurd cc
 
-  pub metered_reads : (n : ℕ) (p : C) (t : Duration) (owed : ℕ) (cause : Cause) (place : Option ℕ) (l : LookedView) (rate : Rate)
-      (h : List (Happening C S)) (reads reads2 : List (ℕ × MetersView)) (m m2 : MetersView) → rate_at pace place ≡ Some rate →
-      reads_of reads n ≡ Some m → reads_of reads2 n ≡ Some m2 → Takes rate (as_nanos t) place m m2 →
+  -- .. by a happening that is one, of gossip or of the channel at a position
+  pub metered_takes : (e : Happening C S) (n : ℕ) (now : ℕ) (place : Option ℕ) (rate : Rate)
+      (h : List (Happening C S)) (reads reads2 : List (ℕ × MetersView)) (m m2 : MetersView) →
+      ((j : ℕ) → begins_as j e ≡ None) → ((j : ℕ) → ends_as j e ≡ false) →
+      ((j : ℕ) (other : Option ℕ) → read_by j other e ≡ (if (n == j) && is_of other (kind_at_rate place) then now ∷ [] else [])) →
+      rate_at pace place ≡ Some rate →
+      reads_of reads n ≡ Some m → reads_of reads2 n ≡ Some m2 → Takes rate now place m m2 →
       ((j : ℕ) → (j == n) ≡ false → reads_of reads2 j ≡ reads_of reads j) →
-      AreMetered pace (as_nanos t) h reads →
-      AreMetered pace (as_nanos t) (Happening.Heard n p t owed cause (Outcome.Reads (kind_at_rate place) l) ∷ h) reads2
-  metered_reads n p t owed cause place l rate h reads reads2 m m2 has old new takes others kept j = go (n == j) refl
+      AreMetered pace now h reads → AreMetered pace now (e ∷ h) reads2
+  metered_takes e n now place rate h reads reads2 m m2 begins ends reading has old new takes others kept j =
+      subst (λ o. IsMeteredSince pace now j (found_with o e (last_with (begins_as j) h)) (reads_of reads2 j)) (sym (begins j)) (go (n == j) refl)
     where
-      now : ℕ
-      now = as_nanos t
-
-      e : Happening C S
-      e = Happening.Heard n p t owed cause (Outcome.Reads (kind_at_rate place) l)
-
       go : (b : Bool) → (n == j) ≡ b → IsMeteredSince pace now j (found_with None e (last_with (begins_as j) h)) (reads_of reads2 j)
       go false same = subst (IsMeteredSince pace now j (found_with None e (last_with (begins_as j) h))) (sym (others j other))
-          (since_stays now j e (last_with (begins_as j) h) (reads_of reads j) refl refl
-          (λ place2. ap (λ b. if b && is_of place2 (kind_at_rate place) then now ∷ [] else []) same) (kept j))
+          (subst (λ o. IsMeteredSince pace now j (found_with o e (last_with (begins_as j) h)) (reads_of reads j)) (begins j)
+          (since_stays now j e (last_with (begins_as j) h) (reads_of reads j) (begins j) (ends j)
+          (λ place2. reading j place2 ∙ ap (λ b. if b && is_of place2 (kind_at_rate place) then now ∷ [] else []) same) (kept j)))
         where
           other : (j == n) ≡ false
           other = grind (arith, nat_tests)
@@ -236,7 +235,7 @@ module _ {C S : Type 0} (pace : Pace) where
           is = grind (arith, nat_tests)
 
           counts : (place2 : Option ℕ) → read_by j place2 e ≡ (if is_of place2 (kind_at_rate place) then now ∷ [] else [])
-          counts place2 = ap (λ b. if b && is_of place2 (kind_at_rate place) then now ∷ [] else []) same
+          counts place2 = reading j place2 ∙ ap (λ b. if b && is_of place2 (kind_at_rate place) then now ∷ [] else []) same
 
           here : reads_of reads2 j ≡ Some m2
           here = ap (reads_of reads2) (sym is) ∙ new
@@ -248,5 +247,26 @@ module _ {C S : Type 0} (pace : Pace) where
           at : (found : Option (Duration × List (Happening C S))) → IsMeteredSince pace now j found (Some m) →
               IsMeteredSince pace now j (found_with None e found) (reads_of reads2 j)
           at None kept = absurd (some_isnt m kept)
-          at (Some found) kept = subst (IsMeteredIf (list_any (ends_as j) found.1) pace now j (e ∷ found.1)) (sym here)
-              (ended (list_any (ends_as j) found.1) found.1 kept)
+          at (Some found) kept = subst (λ b. IsMeteredIf (b || list_any (ends_as j) found.1) pace now j (e ∷ found.1) (reads_of reads2 j)) (sym (ends j))
+              (subst (IsMeteredIf (list_any (ends_as j) found.1) pace now j (e ∷ found.1)) (sym here)
+              (ended (list_any (ends_as j) found.1) found.1 kept))
+
+  pub metered_reads : (n : ℕ) (p : C) (t : Duration) (owed : ℕ) (cause : Cause) (place : Option ℕ) (l : LookedView) (rate : Rate)
+      (h : List (Happening C S)) (reads reads2 : List (ℕ × MetersView)) (m m2 : MetersView) → rate_at pace place ≡ Some rate →
+      reads_of reads n ≡ Some m → reads_of reads2 n ≡ Some m2 → Takes rate (as_nanos t) place m m2 →
+      ((j : ℕ) → (j == n) ≡ false → reads_of reads2 j ≡ reads_of reads j) →
+      AreMetered pace (as_nanos t) h reads →
+      AreMetered pace (as_nanos t) (Happening.Heard n p t owed cause (Outcome.Reads (kind_at_rate place) l) ∷ h) reads2
+  metered_reads n p t owed cause place l rate h reads reads2 m m2 has old new takes others kept =
+      metered_takes (Happening.Heard n p t owed cause (Outcome.Reads (kind_at_rate place) l)) n (as_nanos t) place rate h reads reads2 m m2
+      (λ j. refl) (λ j. refl) (λ j other. refl) has old new takes others kept
+
+  -- A MESSAGE IS SAID
+  pub metered_says : (n : ℕ) (p : C) (t : Duration) (at : ℕ) (rate : Rate)
+      (h : List (Happening C S)) (reads reads2 : List (ℕ × MetersView)) (m m2 : MetersView) → rate_at pace (Some at) ≡ Some rate →
+      reads_of reads n ≡ Some m → reads_of reads2 n ≡ Some m2 → Takes rate (as_nanos t) (Some at) m m2 →
+      ((j : ℕ) → (j == n) ≡ false → reads_of reads2 j ≡ reads_of reads j) →
+      AreMetered pace (as_nanos t) h reads → AreMetered pace (as_nanos t) (Happening.Spoken n p t at ∷ h) reads2
+  metered_says n p t at rate h reads reads2 m m2 has old new takes others kept =
+      metered_takes (Happening.Spoken n p t at) n (as_nanos t) (Some at) rate h reads reads2 m m2
+      (λ j. refl) (λ j. refl) (λ j other. refl) has old new takes others kept

@@ -137,8 +137,10 @@ module _ {C S : Type 0} (b : Base C S) where
   over (Happening.StaleSetCame index primary secondary ∷ h) right p g is = step (Happening.StaleSetCame index primary secondary) h p refl (λ n below. refl) (λ g is. over h right.2 p g is) g is
   over (Happening.StreamLate n t ∷ h) right p g is = step (Happening.StreamLate n t) h p refl (λ n below. refl) (λ g is. over h right.2 p g is) g is
   over (Happening.LinkLate n r t ∷ h) right p g is = step (Happening.LinkLate n r t) h p refl (λ n below. refl) (λ g is. over h right.2 p g is) g is
+  over (Happening.Written n r t ∷ h) right p g is = step (Happening.Written n r t) h p refl (λ n below. refl) (λ g is. over h right.2 p g is) g is
+  over (Happening.Spoken n r t place ∷ h) right p g is = step (Happening.Spoken n r t place) h p refl (λ n below. refl) (λ g is. over h right.2 p g is) g is
   over (Happening.Heard n r t owed cause outcome ∷ h) right p g is = step (Happening.Heard n r t owed cause outcome) h p refl (λ n below. refl) (λ g is. over h right.2 p g is) g is
-  over (Happening.Asked n r t owed question ∷ h) right p g is = step (Happening.Asked n r t owed question) h p refl (λ n below. refl) (λ g is. over h right.2 p g is) g is
+  over (Happening.Asked n r t owed fits question ∷ h) right p g is = step (Happening.Asked n r t owed fits question) h p refl (λ n below. refl) (λ g is. over h right.2 p g is) g is
   over (Happening.Given infos t ∷ h) right p g is = step (Happening.Given infos t) h p refl (λ n below. refl) (λ g is. over h right.2 p g is) g is
   over (Happening.Barred r t taken ∷ h) right p g is = step (Happening.Barred r t taken) h p refl (λ n below. refl) (λ g is. over h right.2 p g is) g is
   over (Happening.Parted r t ∷ h) right p g is = step (Happening.Parted r t) h p refl (λ n below. refl) (λ g is. over h right.2 p g is) g is
@@ -190,8 +192,10 @@ module _ {C S : Type 0} (b : Base C S) where
     one_number (Happening.StaleSetCame index primary secondary ∷ h) right = still (Happening.StaleSetCame index primary secondary) h (λ p. refl) (one_number h right.2)
     one_number (Happening.StreamLate n t ∷ h) right = still (Happening.StreamLate n t) h (λ p. refl) (one_number h right.2)
     one_number (Happening.LinkLate n r t ∷ h) right = still (Happening.LinkLate n r t) h (λ p. refl) (one_number h right.2)
+    one_number (Happening.Written n r t ∷ h) right = still (Happening.Written n r t) h (λ p. refl) (one_number h right.2)
+    one_number (Happening.Spoken n r t place ∷ h) right = still (Happening.Spoken n r t place) h (λ p. refl) (one_number h right.2)
     one_number (Happening.Heard n r t owed cause outcome ∷ h) right = still (Happening.Heard n r t owed cause outcome) h (λ p. refl) (one_number h right.2)
-    one_number (Happening.Asked n r t owed question ∷ h) right = still (Happening.Asked n r t owed question) h (λ p. refl) (one_number h right.2)
+    one_number (Happening.Asked n r t owed fits question ∷ h) right = still (Happening.Asked n r t owed fits question) h (λ p. refl) (one_number h right.2)
     one_number (Happening.Given infos t ∷ h) right = still (Happening.Given infos t) h (λ p. refl) (one_number h right.2)
     one_number (Happening.Barred r t taken ∷ h) right = still (Happening.Barred r t taken) h (λ p. refl) (one_number h right.2)
     one_number (Happening.Parted r t ∷ h) right = still (Happening.Parted r t) h (λ p. refl) (one_number h right.2)

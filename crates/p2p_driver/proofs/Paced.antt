@@ -1,5 +1,5 @@
 -- Frames of a link are read at the rates, and the first bytes of a frame decide what comes of them.
-use Rattle.std.proofs.Common.{◌≡◌, ℕ, ◌==◌, ◌≤◌, ◌<◌, ◌&&◌, ◌⊎◌, inl, inr, Bool, true, false, List, [], ◌∷◌, ◌++◌, Option, Some, None, refl, sym, ◌∙◌, ap, subst, arith}
+use Rattle.std.proofs.Common.{◌≡◌, ℕ, suc, ◌+◌, ◌-◌, ◌*◌, ◌==◌, ◌≤◌, ◌<◌, ◌&&◌, ◌⊎◌, inl, inr, Bool, true, false, List, [], ◌∷◌, ◌++◌, Option, Some, None, refl, sym, ◌∙◌, ap, subst, arith}
 use Rattle.std.specs.Prelude.{if◌then◌else◌}
 use Rattle.std.specs.Duration.{as_nanos, max_nanos}
 use Rattle.std.specs.Int.NonZero.{non_zero_u32_get}
@@ -10,7 +10,7 @@ use Rattle.std.proofs.lemmas.Bool.Decides.{nat_tests}
 use Rattle.p2p_tracker.specs.Calls.{Call}
 use Rattle.p2p_tracker.specs.History.{last_with, found_with}
 use Rattle.p2p_driver.specs.Answers.{IsAllowedAt}
-use Rattle.p2p_driver.specs.Drivers.{Base, AreRight, IsRight, IsInTime, IsHeard, link, standing}
+use Rattle.p2p_driver.specs.Drivers.{Base, AreRight, IsRight, IsInTime, IsHeard, IsSpoken, link, standing}
 use Rattle.p2p_driver.specs.Frames.{Cause, Outcome, IsOutcome}
 use Rattle.p2p_driver.specs.Happenings.{Happening, calls_of, latest_at, latest_of, time_by}
 use Rattle.p2p_driver.specs.Heads.{kind_of}
@@ -51,6 +51,13 @@ both false y is = absurd cc
 
 nothing_before : (now : ℕ) → AreBefore now []
 nothing_before now k a at = absurd cc
+
+-- what may happen twice may happen once
+pub allowed_once : (rate : Rate) (xs : List ℕ) (now : ℕ) → IsAllowedAt rate (now ∷ xs) now → IsAllowedAt rate xs now
+allowed_once rate xs now may k a found = one (as_nanos rate.refill) (non_zero_u32_get rate.burst * as_nanos rate.refill) k (now - a) (may (suc k) a found)
+  where
+    one : (refill all k past : ℕ) → (suc k + 2) * refill ≤ all + past → (k + 2) * refill ≤ all + past
+    one refill all k past is = grind (arith)
 
 -- AT THE RATES
 module _ {C S : Type 0} (b : Base C S) (n : ℕ) (place : Option ℕ) (rate : Rate) (has : rate_at b.pace place ≡ Some rate) where
@@ -105,6 +112,19 @@ module _ {C S : Type 0} (b : Base C S) (n : ℕ) (place : Option ℕ) (rate : Ra
           (of_cause h m (as_nanos t) k looked at held c
           (by_head (calls_of h) p held.phase held.owed held.waiting c k looked right.comes) right.paced))
 
+  may_be_said : (m : ℕ) (p : C) (t : Duration) (at : ℕ) (h : List (Happening C S)) →
+      IsRight b h (Happening.Spoken m p t at) → (m == n) ≡ true → is_of place (kind.Message at) ≡ true →
+      IsAllowedAt rate (frames_read n place h) (as_nanos t)
+  may_be_said m p t at h right same is = go (link b p h) right
+    where
+      go : (o : Option Held) → IsSomeAnd o (IsSpoken b h m t at) → IsAllowedAt rate (frames_read n place h) (as_nanos t)
+      go None right = absurd right
+      go (Some held) right = subst (λ j. IsAllowedAt rate (frames_read j place h) (as_nanos t)) (same_number m n same)
+          (allowed_once rate (frames_read m place h) (as_nanos t)
+          (subst (λ o. IsSomeAnd o (λ r. IsAllowedAt r (as_nanos t ∷ frames_read m place h) (as_nanos t))) has
+          (subst (λ x. IsSomeAnd (rate_at b.pace x) (λ r. IsAllowedAt r (as_nanos t ∷ frames_read m x h) (as_nanos t)))
+          (the_place place (Some at) is) right.rate)))
+
   -- the frames of the link that were read since it began
   abbrev reads_in : Option (Duration × List (Happening C S)) → List ℕ
   reads_in found = read_in n place (since_in found)
@@ -152,6 +172,25 @@ module _ {C S : Type 0} (b : Base C S) (n : ℕ) (place : Option ℕ) (rate : Ra
           (may_be_read m p t owed c k looked h right two.0 two.1)
       go false is = stays e h refl (ap (λ x. if x then as_nanos t ∷ [] else []) is)
 
+  -- a message was said, if its rate allowed it
+  speaks : (m : ℕ) (p : C) (t : Duration) (at : ℕ) (h : List (Happening C S)) →
+      IsRight b h (Happening.Spoken m p t at) → MakesAfter (Happening.Spoken m p t at) h
+  speaks m p t at h right = go ((m == n) && is_of place (kind.Message at)) refl
+    where
+      e : Happening C S
+      e = Happening.Spoken m p t at
+
+      more : (found : Option (Duration × List (Happening C S))) → read_by n place e ≡ as_nanos t ∷ [] →
+          IsAllowedAt rate (reads_in found) (as_nanos t) → Makes e (reads_in found) (reads_in (found_with None e found))
+      more None is may = inl refl
+      more (Some found) is may = inr (inr (t, refl, ap (λ xs. xs ++ read_in n place found.1) is, may))
+
+      go : (x : Bool) → ((m == n) && is_of place (kind.Message at)) ≡ x → MakesAfter e h
+      go true is = let two = both (m == n) (is_of place (kind.Message at)) is in
+          more (last_with (begins_as n) h) (ap (λ x. if x then as_nanos t ∷ [] else []) is)
+          (may_be_said m p t at h right two.0 two.1)
+      go false is = stays e h refl (ap (λ x. if x then as_nanos t ∷ [] else []) is)
+
   hears : (m : ℕ) (p : C) (t : Duration) (owed : ℕ) (c : Cause) (x : Outcome C S) (h : List (Happening C S)) →
       IsRight b h (Happening.Heard m p t owed c x) → MakesAfter (Happening.Heard m p t owed c x) h
   hears m p t owed c (Outcome.Waits w) h right = stays (Happening.Heard m p t owed c (Outcome.Waits w)) h refl refl
@@ -178,8 +217,10 @@ module _ {C S : Type 0} (b : Base C S) (n : ℕ) (place : Option ℕ) (rate : Ra
   makes (Happening.StaleSetCame index primary secondary) h right = stays (Happening.StaleSetCame index primary secondary) h refl refl
   makes (Happening.StreamLate m t) h right = stays (Happening.StreamLate m t) h refl refl
   makes (Happening.LinkLate m q t) h right = stays (Happening.LinkLate m q t) h refl refl
+  makes (Happening.Written m q t) h right = stays (Happening.Written m q t) h refl refl
+  makes (Happening.Spoken m q t at) h right = speaks m q t at h right
   makes (Happening.Heard m q t owed cause outcome) h right = hears m q t owed cause outcome h right
-  makes (Happening.Asked m q t owed question) h right = stays (Happening.Asked m q t owed question) h refl refl
+  makes (Happening.Asked m q t owed fits question) h right = stays (Happening.Asked m q t owed fits question) h refl refl
   makes (Happening.Given infos t) h right = stays (Happening.Given infos t) h refl refl
   makes (Happening.Barred q t taken) h right = stays (Happening.Barred q t taken) h refl refl
   makes (Happening.Parted q t) h right = stays (Happening.Parted q t) h refl refl

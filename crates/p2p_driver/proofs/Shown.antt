@@ -34,6 +34,8 @@ use Rattle.p2p_driver.specs.declared.heads.Kind.TheVariants as kind
 use Rattle.p2p_driver.specs.declared.pace.Channel.{Channel}
 use Rattle.p2p_driver.specs.Happenings.{Happening}
 use Rattle.p2p_driver.specs.Laws.{asked_on, lists_on, has_greeted}
+use Rattle.p2p_driver.specs.declared.actions.Action.TheVariants as action
+use Rattle.p2p_driver.specs.declared.actions.Event.TheVariants as event
 use Rattle.p2p_driver.specs.declared.actions.Breach.TheVariants as breach
 use Rattle.p2p_driver.specs.declared.arrivals.Room.TheVariants as room
 use Rattle.p2p_driver.specs.declared.links.Waiting.{Waiting}
@@ -84,7 +86,7 @@ reads t owed bytes k = heard t owed (Cause.OfHead 300 bytes (length bytes)) (Out
 abbrev wordy : List ℕ
 wordy = 0 ∷ 7 ∷ 1 ∷ 65 ∷ []
 
-module _ (given : Pace) where
+module _ (given : Pace) (two : 2 ≤ non_zero_u32_get given.burst) where
   abbrev channel : Channel
   channel = record { number = 7; longest = 10; burst = given.burst; refill = seconds 1 }
 
@@ -97,6 +99,7 @@ module _ (given : Pace) where
       links = 4;
       inbound = 4;
       owed = 4;
+      queue = 4;
       tick = seconds 30;
       refresh = 2;
       refill = seconds 1;
@@ -118,8 +121,14 @@ module _ (given : Pace) where
   abbrev proved : List (Happening ℕ ℕ)
   proved = Happening.Proved 1 1 (seconds 2) (seconds 0) ∷ claimed
 
+  abbrev sent_first : List (Happening ℕ ℕ)
+  sent_first = Happening.Taken (action.Send (record { 0 = 1 }) b.greeting) ∷ proved
+
+  abbrev written : List (Happening ℕ ℕ)
+  written = Happening.Written 1 1 (seconds 2) ∷ sent_first
+
   abbrev greeting_read : List (Happening ℕ ℕ)
-  greeting_read = reads 2 0 hello kind.Greeting ∷ proved
+  greeting_read = reads 2 0 hello kind.Greeting ∷ written
 
   abbrev greeting_waits : List (Happening ℕ ℕ)
   greeting_waits = heard 2 0 (frame hello) (Outcome.Waits (waits hello)) ∷ greeting_read
@@ -127,8 +136,17 @@ module _ (given : Pace) where
   abbrev greeted : List (Happening ℕ ℕ)
   greeted = heard 3 1 (Cause.OfVerdicts (true ∷ [])) (Outcome.Greets greeter (Some (asking (having true false)))) ∷ greeting_waits
 
+  abbrev told : List (Happening ℕ ℕ)
+  told = Happening.Taken (action.Told (event.Up (record { 0 = 1 }) 1)) ∷ greeted
+
+  abbrev sent_question : List (Happening ℕ ℕ)
+  sent_question = Happening.Taken (action.Send (record { 0 = 1 }) (having true false)) ∷ told
+
+  abbrev spoken : List (Happening ℕ ℕ)
+  spoken = Happening.Spoken 1 1 (seconds 3) 1 ∷ sent_question
+
   abbrev message_read : List (Happening ℕ ℕ)
-  message_read = reads 4 1 wordy (kind.Message 0) ∷ greeted
+  message_read = reads 4 1 wordy (kind.Message 0) ∷ spoken
 
   abbrev delivered : List (Happening ℕ ℕ)
   delivered = heard 4 1 (frame wordy) (Outcome.Delivers message) ∷ message_read
@@ -149,7 +167,7 @@ module _ (given : Pace) where
   answered = heard 6 0 (frame (having false false)) (Outcome.Answers (wire.spelling (payload.Peers (greeter ∷ [])))) ∷ question_read
 
   abbrev asked_again : List (Happening ℕ ℕ)
-  asked_again = Happening.Asked 1 1 (seconds 33) 1 (Some (asking (having false false))) ∷ answered
+  asked_again = Happening.Asked 1 1 (seconds 33) 1 true (Some (asking (having false false))) ∷ answered
 
   abbrev second_read : List (Happening ℕ ℕ)
   second_read = reads 34 1 (1 ∷ []) kind.Gossip ∷ asked_again
@@ -184,18 +202,26 @@ module _ (given : Pace) where
   unfolding life
   proved_right = ((refl, refl), omega arith, claimed_right)
 
+  sent_first_right : AreRight b sent_first
+  unfolding life
+  sent_first_right = (([], refl), tt, proved_right)
+
+  written_right : AreRight b written
+  unfolding life
+  written_right = ((refl, omega arith), omega arith, sent_first_right)
+
   greeting_read_right : AreRight b greeting_read
   unfolding groups spellings
   greeting_read_right = (
-    record { number = refl; comes = refl; owes = refl; done = tt; paced = (refl, refl) },
+    record { number = refl; comes = refl; owes = refl; done = tt; paced = (refl, refl); room = tt },
     omega arith,
-    proved_right,
+    written_right,
   )
 
   waits_right : AreRight b greeting_waits
   unfolding payload_at body_at length_at groups groups_at texts.info_at ingress_at ip_at socket_at
   waits_right = (
-    record { number = refl; comes = ((refl, refl), (greeter, refl, refl, refl, refl)); owes = refl; done = tt; paced = refl },
+    record { number = refl; comes = ((refl, refl), (greeter, refl, refl, refl, refl)); owes = refl; done = tt; paced = refl; room = tt },
     omega arith,
     greeting_read_right,
   )
@@ -203,23 +229,45 @@ module _ (given : Pace) where
   greeted_right : AreRight b greeted
   unfolding life payload_at body_at length_at groups groups_at texts.info_at ingress_at ip_at socket_at spellings packed
   greeted_right = (
-    record { number = refl; comes = (refl, (refl, refl)); owes = refl; done = (refl, refl, (0, refl, refl)); paced = tt },
+    record { number = refl; comes = (refl, (refl, refl)); owes = refl; done = (refl, refl, (0, refl, refl)); paced = tt; room = refl },
     omega arith,
     waits_right,
+  )
+
+  told_right : AreRight b told
+  unfolding life
+  told_right = ((action.Send (record { 0 = 1 }) (having true false) ∷ [], refl), tt, greeted_right)
+
+  sent_question_right : AreRight b sent_question
+  unfolding life
+  sent_question_right = (([], refl), tt, told_right)
+
+  -- one more might be said at once
+  may_follow : (k a : ℕ) → slice_get (as_nanos (seconds 3) ∷ []) k ≡ Some a →
+      (k + 2) * as_nanos (seconds 1) ≤ non_zero_u32_get given.burst * as_nanos (seconds 1) + (as_nanos (seconds 3) - a)
+  may_follow zero a is = omega (arith, two)
+  may_follow (suc k) a is = absurd cc
+
+  spoken_right : AreRight b spoken
+  unfolding life
+  spoken_right = (
+    record { number = refl; opens = refl; taken = refl; room = refl; after = omega arith; rate = may_follow },
+    omega arith,
+    sent_question_right,
   )
 
   message_read_right : AreRight b message_read
   unfolding groups groups_at
   message_read_right = (
-    record { number = refl; comes = refl; owes = refl; done = tt; paced = (refl, refl, λ k a is. absurd cc) },
+    record { number = refl; comes = refl; owes = refl; done = tt; paced = (refl, refl, λ k a is. absurd cc); room = tt },
     omega arith,
-    greeted_right,
+    spoken_right,
   )
 
   delivered_right : AreRight b delivered
   unfolding payload_at body_at data_at message_at length_at groups groups_at
   delivered_right = (
-    record { number = refl; comes = (refl, refl, refl); owes = refl; done = tt; paced = refl },
+    record { number = refl; comes = (refl, refl, refl); owes = refl; done = tt; paced = refl; room = tt },
     omega arith,
     message_read_right,
   )
@@ -227,7 +275,7 @@ module _ (given : Pace) where
   list_read_right : AreRight b list_read
   unfolding groups groups_at spellings
   list_read_right = (
-    record { number = refl; comes = refl; owes = refl; done = tt; paced = (refl, refl, λ k a is. absurd cc) },
+    record { number = refl; comes = refl; owes = refl; done = tt; paced = (refl, refl, λ k a is. absurd cc); room = tt },
     omega arith,
     delivered_right,
   )
@@ -241,6 +289,7 @@ module _ (given : Pace) where
       owes = refl;
       done = tt;
       paced = refl;
+      room = tt;
     },
     omega arith,
     list_read_right,
@@ -249,7 +298,7 @@ module _ (given : Pace) where
   listed_right : AreRight b listed
   unfolding payload_at body_at length_at groups groups_at texts.info_at ingress_at ip_at socket_at spellings elems items_at list_at
   listed_right = (
-    record { number = refl; comes = (refl, (refl, refl)); owes = refl; done = tt; paced = tt },
+    record { number = refl; comes = (refl, (refl, refl)); owes = refl; done = tt; paced = tt; room = tt },
     omega arith,
     list_waits_right,
   )
@@ -268,7 +317,7 @@ module _ (given : Pace) where
   question_read_right : AreRight b question_read
   unfolding groups groups_at packed spellings
   question_read_right = (
-    record { number = refl; comes = refl; owes = refl; done = tt; paced = (refl, refl, after_one) },
+    record { number = refl; comes = refl; owes = refl; done = tt; paced = (refl, refl, after_one); room = tt },
     omega arith,
     listed_right,
   )
@@ -282,6 +331,7 @@ module _ (given : Pace) where
       owes = refl;
       done = tt;
       paced = refl;
+      room = refl;
     },
     omega arith,
     question_read_right,
@@ -290,7 +340,7 @@ module _ (given : Pace) where
   asked_again_right : AreRight b asked_again
   unfolding life payload_at body_at groups groups_at packed spellings
   asked_again_right = (
-    record { number = refl; due = refl; owes = refl; asks = (refl, refl, (0, refl, refl)) },
+    record { number = refl; due = refl; owes = refl; asks = (refl, refl, (0, refl, refl)); room_is = refl; room = refl },
     omega arith,
     answered_right,
   )
@@ -298,7 +348,7 @@ module _ (given : Pace) where
   second_read_right : AreRight b second_read
   unfolding groups groups_at packed spellings
   second_read_right = (
-    record { number = refl; comes = refl; owes = refl; done = tt; paced = (refl, refl, after_two) },
+    record { number = refl; comes = refl; owes = refl; done = tt; paced = (refl, refl, after_two); room = tt },
     omega arith,
     asked_again_right,
   )
@@ -307,7 +357,7 @@ module _ (given : Pace) where
   pub right : AreRight b broken
   unfolding life
   right = (
-    record { number = refl; comes = refl; owes = refl; done = refl; paced = refl },
+    record { number = refl; comes = refl; owes = refl; done = refl; paced = refl; room = tt },
     omega arith,
     second_read_right,
   )

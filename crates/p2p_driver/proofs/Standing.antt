@@ -16,8 +16,8 @@ use Rattle.p2p_directory.specs.Nodes.{NodeView, NodeStandsAt}
 use Rattle.p2p_driver.specs.Answers.{AnswersView, AreKept}
 use Rattle.p2p_driver.specs.Arrivals.{has_number, arrival_of, arrived, claimed, room_of}
 use Rattle.p2p_driver.specs.Frames.{Cause, Outcome}
-use Rattle.p2p_driver.specs.Happenings.{Happening, time_by, latest_at, latest_of, calls_of, calls_by, came_by, leaves_by, claim_by, is_new, answered_in, answered_by, is_proved, is_ended, link_at, opened_by, ends_by, said, says_by, taken, taken_by, crowded_out, sent, shut, shut_all, parted, calls_for, heard_as, answered_on, asking_on, why_late}
-use Rattle.p2p_driver.specs.Links.{link_of, link_with, asking, closed}
+use Rattle.p2p_driver.specs.Happenings.{Happening, time_by, latest_at, latest_of, calls_of, calls_by, came_by, leaves_by, claim_by, is_new, answered_in, answered_by, is_proved, is_ended, link_at, opened_by, ends_by, said, says_by, taken, taken_by, crowded_out, sent, shut, shut_all, parted, calls_for, heard_as, answered_on, asking_on, said_with, why_late}
+use Rattle.p2p_driver.specs.Links.{link_of, link_with, asking, saying, writing, closed}
 use Rattle.p2p_driver.specs.Meters.{MetersView}
 use Rattle.p2p_driver.specs.Questions.{asked_after}
 use Rattle.p2p_driver.specs.Reading.{begins_as, ends_as, read_by, AreMetered}
@@ -35,7 +35,7 @@ use Rattle.p2p_driver.specs.declared.pace.Pace.{Pace}
 use Rattle.p2p_driver.proofs.Answered.{kept_at_later}
 use Rattle.p2p_driver.proofs.Metered.{metered_later, metered_stays, metered_begins, metered_ends}
 use Rattle.p2p_driver.proofs.StreamHistory.{streams_stay, streams_leave, streams_claim, streams_come, next_stays, next_rises}
-use Rattle.p2p_driver.proofs.LinkHistory.{touch_by, untouched, closing_if, link_after, link_stays, link_later, link_opens, link_hears, link_asks, ended_link, closed_link, said_more, took_one}
+use Rattle.p2p_driver.proofs.LinkHistory.{touch_by, untouched, closing_if, link_after, link_stays, link_later, link_opens, link_hears, link_asks, link_writes, link_speaks, ended_link, closed_link, said_more, took_one}
 
 module _ {C S : Type 0} where
   -- how many are of a kind, with one more
@@ -192,7 +192,7 @@ module _ {C S : Type 0} (b : Base C S) (h : List (Happening C S)) (v : DriverVie
   pub proves : (n : ℕ) (p : C) (t draw : Duration) (node : NodeView C S) (reads : List (ℕ × MetersView)) (links : List (C × Held)) (answers : AnswersView) →
       IsRight b h (Happening.Proved n p t draw) → v.latest ≤ as_nanos t →
       NodeStandsAt b.made (Listen p (as_nanos t) (as_nanos draw) ∷ calls_of h) node →
-      ((j : ℕ) → reads_of reads j ≡ (if j == n then Some (unread (length v.pace.channels.items)) else reads_of v.reads j)) →
+      ((j : ℕ) → reads_of reads j ≡ (if j == n then Some (unread (length v.pace.channels.items + length v.pace.channels.items)) else reads_of v.reads j)) →
       ((q : C) → link_of d.cmp links q ≡ (if is_at (d.cmp p) q then Some (link_with n t) else link_of d.cmp v.links q)) →
       length links ≡ length v.links + 1 → AreKept b.pace (as_nanos t) (answered_in h) answers →
       DriverStandsAt b (Happening.Proved n p t draw ∷ h) (record v {
@@ -214,8 +214,8 @@ module _ {C S : Type 0} (b : Base C S) (h : List (Happening C S)) (v : DriverVie
         next = at.next ∙ sym (next_stays e h refl);
         arrivals = streams_leave n e h v.arrivals refl (λ j. refl) (λ j. refl) (λ j. refl) at.arrivals;
         answers = kept;
-        reads = metered_begins b.pace (as_nanos t) n (length v.pace.channels.items) p t draw h v.reads reads
-            (ap (λ (q : Pace). length q.channels.items) at.pace) empty (reads_at (as_nanos t) after);
+        reads = metered_begins b.pace (as_nanos t) n (length v.pace.channels.items + length v.pace.channels.items) p t draw h v.reads reads
+            (ap (λ (q : Pace). length q.channels.items + length q.channels.items) at.pace) empty (reads_at (as_nanos t) after);
         links = λ q. tied q ∙ ap (λ o. if is_at (d.cmp p) q then Some (link_with n t) else o) (at.links q)
             ∙ sym (link_opens d q p n t draw h);
         count = let ended = one_more is_ended e h false refl in let proved = one_more is_proved e h true refl in
@@ -357,16 +357,16 @@ module _ {C S : Type 0} (b : Base C S) (h : List (Happening C S)) (v : DriverVie
       }
 
   -- a question was due
-  pub asks : (n : ℕ) (p : C) (t : Duration) (owed : ℕ) (question : Option Question) (links : List (C × Held)) →
-      IsRight b h (Happening.Asked n p t owed question) → v.latest ≤ as_nanos t →
-      ((q : C) → link_of d.cmp links q ≡ (if is_at (d.cmp p) q then option_map (λ x. asking owed (asked_after t question x.asked) x) (link_of d.cmp v.links q) else link_of d.cmp v.links q)) →
+  pub asks : (n : ℕ) (p : C) (t : Duration) (owed : ℕ) (fits : Bool) (question : Option Question) (links : List (C × Held)) →
+      IsRight b h (Happening.Asked n p t owed fits question) → v.latest ≤ as_nanos t →
+      ((q : C) → link_of d.cmp links q ≡ (if is_at (d.cmp p) q then option_map (λ x. saying (said_with t question) (asking owed (asked_after t question x.asked) x)) (link_of d.cmp v.links q) else link_of d.cmp v.links q)) →
       length links ≡ length v.links →
-      DriverStandsAt b (Happening.Asked n p t owed question ∷ h) (record v {
+      DriverStandsAt b (Happening.Asked n p t owed fits question ∷ h) (record v {
         latest = as_nanos t;
         links = links;
         actions = v.actions ++ asking_on n question;
       })
-  asks n p t owed question links right after tied same = let e : Happening C S = Happening.Asked n p t owed question in record {
+  asks n p t owed fits question links right after tied same = let e : Happening C S = Happening.Asked n p t owed fits question in record {
     node = at.node;
     pace = at.pace;
     greeting = at.greeting;
@@ -376,10 +376,57 @@ module _ {C S : Type 0} (b : Base C S) (h : List (Happening C S)) (v : DriverVie
     arrivals = streams_stay e h v.arrivals refl (λ j. refl) (λ j. refl) (λ j. refl) at.arrivals;
     answers = answers_later (as_nanos t) after;
     reads = reads_later e (as_nanos t) after (λ j. refl) (λ j. refl) (λ j place. refl);
-    links = λ q. tied q ∙ ap (λ o. if is_at (d.cmp p) q then option_map (λ x. asking owed (asked_after t question x.asked) x) o else o) (at.links q)
-        ∙ sym (link_asks d q p n t owed question h);
+    links = λ q. tied q ∙ ap (λ o. if is_at (d.cmp p) q then option_map (λ x. saying (said_with t question) (asking owed (asked_after t question x.asked) x)) o else o) (at.links q)
+        ∙ sym (link_asks d q p n t owed fits question h);
     count = ap (λ k. k + count_by is_ended (e ∷ h)) same ∙ count_stays e refl refl;
     actions = says (asking_on n question) e refl refl;
+    right = (right, in_time (as_nanos t) after, at.right);
+  }
+
+  -- a frame was written
+  pub writes : (n : ℕ) (p : C) (t : Duration) (links : List (C × Held)) →
+      IsRight b h (Happening.Written n p t) → v.latest ≤ as_nanos t →
+      ((q : C) → link_of d.cmp links q ≡ (if is_at (d.cmp p) q then option_map writing (link_of d.cmp v.links q) else link_of d.cmp v.links q)) →
+      length links ≡ length v.links →
+      DriverStandsAt b (Happening.Written n p t ∷ h) (record v { latest = as_nanos t; links = links })
+  writes n p t links right after tied same = let e : Happening C S = Happening.Written n p t in record {
+    node = at.node;
+    pace = at.pace;
+    greeting = at.greeting;
+    cooldown = at.cooldown;
+    latest = refl;
+    next = at.next ∙ sym (next_stays e h refl);
+    arrivals = streams_stay e h v.arrivals refl (λ j. refl) (λ j. refl) (λ j. refl) at.arrivals;
+    answers = answers_later (as_nanos t) after;
+    reads = reads_later e (as_nanos t) after (λ j. refl) (λ j. refl) (λ j place. refl);
+    links = λ q. tied q ∙ ap (λ o. if is_at (d.cmp p) q then option_map writing o else o) (at.links q)
+        ∙ sym (link_writes d q p n t h);
+    count = ap (λ k. k + count_by is_ended (e ∷ h)) same ∙ count_stays e refl refl;
+    actions = says_nothing e refl refl;
+    right = (right, in_time (as_nanos t) after, at.right);
+  }
+
+  -- a message was said
+  pub speaks : (n : ℕ) (p : C) (t : Duration) (place : ℕ) (reads : List (ℕ × MetersView)) (links : List (C × Held)) →
+      IsRight b h (Happening.Spoken n p t place) → v.latest ≤ as_nanos t →
+      AreMetered b.pace (as_nanos t) (Happening.Spoken n p t place ∷ h) reads →
+      ((q : C) → link_of d.cmp links q ≡ (if is_at (d.cmp p) q then option_map (saying (Some t)) (link_of d.cmp v.links q) else link_of d.cmp v.links q)) →
+      length links ≡ length v.links →
+      DriverStandsAt b (Happening.Spoken n p t place ∷ h) (record v { latest = as_nanos t; reads = reads; links = links })
+  speaks n p t place reads links right after metered tied same = let e : Happening C S = Happening.Spoken n p t place in record {
+    node = at.node;
+    pace = at.pace;
+    greeting = at.greeting;
+    cooldown = at.cooldown;
+    latest = refl;
+    next = at.next ∙ sym (next_stays e h refl);
+    arrivals = streams_stay e h v.arrivals refl (λ j. refl) (λ j. refl) (λ j. refl) at.arrivals;
+    answers = answers_later (as_nanos t) after;
+    reads = metered;
+    links = λ q. tied q ∙ ap (λ o. if is_at (d.cmp p) q then option_map (saying (Some t)) o else o) (at.links q)
+        ∙ sym (link_speaks d q p n t place h);
+    count = ap (λ k. k + count_by is_ended (e ∷ h)) same ∙ count_stays e refl refl;
+    actions = says_nothing e refl refl;
     right = (right, in_time (as_nanos t) after, at.right);
   }
 

@@ -300,11 +300,15 @@ module _ {C S : Type 0} (b : Base C S) where
         ∙ sym (status_later d p (Happening.StreamLate n t) h refl)
     status_is (Happening.LinkLate n q t ∷ h) right p = status_is h right.2 p
         ∙ sym (status_later d p (Happening.LinkLate n q t) h refl)
+    status_is (Happening.Written n q t ∷ h) right p = status_is h right.2 p
+        ∙ sym (status_later d p (Happening.Written n q t) h refl)
+    status_is (Happening.Spoken n q t place ∷ h) right p = status_is h right.2 p
+        ∙ sym (status_later d p (Happening.Spoken n q t place) h refl)
     status_is (Happening.Heard n q t owed cause outcome ∷ h) right p = heard (calls_of h) q t outcome p
         ∙ ap (greeted_if (is_greeted outcome && same d q p)) (status_is h right.2 p)
         ∙ sym (status_later d p (Happening.Heard n q t owed cause outcome) h refl)
-    status_is (Happening.Asked n q t owed question ∷ h) right p = status_is h right.2 p
-        ∙ sym (status_later d p (Happening.Asked n q t owed question) h refl)
+    status_is (Happening.Asked n q t owed fits question ∷ h) right p = status_is h right.2 p
+        ∙ sym (status_later d p (Happening.Asked n q t owed fits question) h refl)
     status_is (Happening.Given infos t ∷ h) right p = updated (calls_of h) infos p ∙ status_is h right.2 p
         ∙ sym (status_later d p (Happening.Given infos t) h refl)
     status_is (Happening.Barred q t taken ∷ h) right p = blocked (calls_of h) q (as_nanos t) p ∙ status_is h right.2 p

@@ -55,8 +55,10 @@ module _ {C S : Type 0} where
   came_never n (Happening.StaleSetCame index primary secondary) new = refl
   came_never n (Happening.StreamLate m t) new = refl
   came_never n (Happening.LinkLate m p t) new = refl
+  came_never n (Happening.Written m p t) new = refl
+  came_never n (Happening.Spoken m p t place) new = refl
   came_never n (Happening.Heard m p t owed cause outcome) new = refl
-  came_never n (Happening.Asked m p t owed question) new = refl
+  came_never n (Happening.Asked m p t owed fits question) new = refl
   came_never n (Happening.Given infos t) new = refl
   came_never n (Happening.Barred p t taken) new = refl
   came_never n (Happening.Parted p t) new = refl
@@ -82,8 +84,10 @@ module _ {C S : Type 0} (b : Base C S) where
   new_is_next n (Happening.StaleSetCame index primary secondary) h right new other = absurd cc
   new_is_next n (Happening.StreamLate m t) h right new other = absurd cc
   new_is_next n (Happening.LinkLate m p t) h right new other = absurd cc
+  new_is_next n (Happening.Written m p t) h right new other = absurd cc
+  new_is_next n (Happening.Spoken m p t place) h right new other = absurd cc
   new_is_next n (Happening.Heard m p t owed cause outcome) h right new other = absurd cc
-  new_is_next n (Happening.Asked m p t owed question) h right new other = absurd cc
+  new_is_next n (Happening.Asked m p t owed fits question) h right new other = absurd cc
   new_is_next n (Happening.Given infos t) h right new other = absurd cc
   new_is_next n (Happening.Barred p t taken) h right new other = absurd cc
   new_is_next n (Happening.Parted p t) h right new other = absurd cc
@@ -213,10 +217,14 @@ module _ {C S : Type 0} (b : Base C S) where
       used_by_link q held (Happening.StreamLate n t) h right.0 refl (used h right.2 q) is
   used (Happening.LinkLate n p t ∷ h) right q held is =
       used_by_link q held (Happening.LinkLate n p t) h right.0 refl (used h right.2 q) is
+  used (Happening.Written n p t ∷ h) right q held is =
+      used_by_link q held (Happening.Written n p t) h right.0 refl (used h right.2 q) is
+  used (Happening.Spoken n p t place ∷ h) right q held is =
+      used_by_link q held (Happening.Spoken n p t place) h right.0 refl (used h right.2 q) is
   used (Happening.Heard n p t owed cause outcome ∷ h) right q held is =
       used_by_link q held (Happening.Heard n p t owed cause outcome) h right.0 refl (used h right.2 q) is
-  used (Happening.Asked n p t owed question ∷ h) right q held is =
-      used_by_link q held (Happening.Asked n p t owed question) h right.0 refl (used h right.2 q) is
+  used (Happening.Asked n p t owed fits question ∷ h) right q held is =
+      used_by_link q held (Happening.Asked n p t owed fits question) h right.0 refl (used h right.2 q) is
   used (Happening.Given infos t ∷ h) right q held is =
       used_by_link q held (Happening.Given infos t) h right.0 refl (used h right.2 q) is
   used (Happening.Barred p t taken ∷ h) right q held is =

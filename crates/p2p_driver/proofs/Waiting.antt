@@ -13,12 +13,12 @@ use Rattle.p2p_driver.specs.declared.links.Phase.{Phase}
 use Rattle.p2p_driver.specs.declared.links.Phase.TheVariants as phase
 use Rattle.p2p_driver.specs.declared.links.Waiting.{Waiting}
 use Rattle.p2p_driver.specs.Frames.{Cause, Outcome, IsWaiting, IsOutcome}
-use Rattle.p2p_driver.specs.Happenings.{Happening, calls_of, opened_by, ends_by, heard_as}
-use Rattle.p2p_driver.specs.Links.{link_of, link_with, closed, opened, hearing, asking, unless_closing}
+use Rattle.p2p_driver.specs.Happenings.{Happening, calls_of, opened_by, ends_by, heard_as, said_with}
+use Rattle.p2p_driver.specs.Links.{link_of, link_with, closed, opened, hearing, asking, saying, writing, unless_closing}
 use Rattle.p2p_driver.specs.Questions.{asked_after}
 use Rattle.p2p_driver.specs.declared.questions.Question.{Question}
 use Rattle.p2p_driver.specs.Drivers.{DriverView, Base, DriverStandsAt, AreRight, IsHeard, link, standing}
-use Rattle.p2p_driver.proofs.LinkHistory.{touch_by, closing_if, link_after, link_stays, link_later, link_opens, link_hears, link_asks, ended_link, closed_link}
+use Rattle.p2p_driver.proofs.LinkHistory.{touch_by, closing_if, link_after, link_stays, link_later, link_opens, link_hears, link_asks, link_writes, link_speaks, ended_link, closed_link}
 
 none_waits : (w : Waiting) → ¬ (None ≡ Some w)
 none_waits w is = cc
@@ -54,12 +54,28 @@ module _ {C S : Type 0} (b : Base C S) where
 
   -- .. or was asked on
   asks : (p : C) (x : Bool) (t : Duration) (owed : ℕ) (question : Option Question) (o : Option Held) → MayWait p o →
-      MayWait p (if x then option_map (λ h. asking owed (asked_after t question h.asked) h) o else o)
+      MayWait p (if x then option_map (λ h. saying (said_with t question) (asking owed (asked_after t question h.asked) h)) o else o)
   asks p true t owed question None may = of_none p
   asks p true t owed question (Some held) may = λ x is w waits.
       subst (λ (y : Held). y.waiting ≡ Some w → IsWaiting d.cmp b.wire (standing b []).limits (standing b []).judge y.phase p w) (some_is is)
       (may held refl w) waits
   asks p false t owed question o may = may
+
+  -- .. or a frame of it was written
+  writes : (p : C) (x : Bool) (o : Option Held) → MayWait p o → MayWait p (if x then option_map writing o else o)
+  writes p true None may = of_none p
+  writes p true (Some held) may = λ x is w waits.
+      subst (λ (y : Held). y.waiting ≡ Some w → IsWaiting d.cmp b.wire (standing b []).limits (standing b []).judge y.phase p w) (some_is is)
+      (may held refl w) waits
+  writes p false o may = may
+
+  -- .. or a message was said on it
+  speaks : (p : C) (x : Bool) (t : Duration) (o : Option Held) → MayWait p o → MayWait p (if x then option_map (saying (Some t)) o else o)
+  speaks p true t None may = of_none p
+  speaks p true t (Some held) may = λ x is w waits.
+      subst (λ (y : Held). y.waiting ≡ Some w → IsWaiting d.cmp b.wire (standing b []).limits (standing b []).judge y.phase p w) (some_is is)
+      (may held refl w) waits
+  speaks p false t o may = may
 
   -- what comes of a frame that waits: it may wait
   pub waits : (cs : List (Call C S)) (p : C) (ph : Phase) (owed : ℕ) (waiting : Option Waiting) (c : Cause) (w : Waiting) →
@@ -103,9 +119,9 @@ module _ {C S : Type 0} (b : Base C S) where
   hears p held t owed (Outcome.Waits v) may before = λ x is.
       subst (λ (y : Held). (w : Waiting) → y.waiting ≡ Some w → IsWaiting d.cmp b.wire (standing b []).limits (standing b []).judge y.phase p w) (some_is is)
       (λ w now. subst (IsWaiting d.cmp b.wire (standing b []).limits (standing b []).judge held.phase p) (in_phase held.phase v w now) (may v refl))
-  hears p held t owed (Outcome.Greets info question) may before = without p (opened t owed (asked_after t question held.asked) held) refl
+  hears p held t owed (Outcome.Greets info question) may before = without p (saying (said_with t question) (opened t owed (asked_after t question held.asked) held)) refl
   hears p held t owed (Outcome.Takes infos) may before = without p (hearing t owed None held) (none_in held.phase)
-  hears p held t owed (Outcome.Answers reply) may before = without p (hearing t owed None held) (none_in held.phase)
+  hears p held t owed (Outcome.Answers reply) may before = without p (saying (Some t) (hearing t owed None held)) (none_in held.phase)
   hears p held t owed (Outcome.Delivers message) may before = without p (hearing t owed None held) (none_in held.phase)
   hears p held t owed Outcome.Ignores may before = without p (hearing t owed None held) (none_in held.phase)
   hears p held t owed (Outcome.Breaks breach blocked) may before = without p (closed held) refl
@@ -176,8 +192,12 @@ module _ {C S : Type 0} (b : Base C S) where
         closed_by (Happening.LinkLate n q t) h p (same d q p) refl refl refl (may_wait h right.2 p)
     may_wait (Happening.Heard n q t owed c outcome ∷ h) right p = subst (MayWait p) (sym (link_hears d p q n t owed c outcome h))
         (heard h p q n t owed c outcome right.0 (may_wait h right.2 p))
-    may_wait (Happening.Asked n q t owed question ∷ h) right p = subst (MayWait p) (sym (link_asks d p q n t owed question h))
+    may_wait (Happening.Asked n q t owed fits question ∷ h) right p = subst (MayWait p) (sym (link_asks d p q n t owed fits question h))
         (asks p (same d q p) t owed question (link b p h) (may_wait h right.2 p))
+    may_wait (Happening.Written n q t ∷ h) right p = subst (MayWait p) (sym (link_writes d p q n t h))
+        (writes p (same d q p) (link b p h) (may_wait h right.2 p))
+    may_wait (Happening.Spoken n q t place ∷ h) right p = subst (MayWait p) (sym (link_speaks d p q n t place h))
+        (speaks p (same d q p) t (link b p h) (may_wait h right.2 p))
     may_wait (Happening.Given infos t ∷ h) right p = let e : Happening C S = Happening.Given infos t in
         stays e h p (link_stays d p e h refl refl refl) (may_wait h right.2 p)
     may_wait (Happening.Barred q t taken ∷ h) right p =

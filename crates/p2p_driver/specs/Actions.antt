@@ -17,6 +17,11 @@ module _ {C : Type 0} (n : ℕ) where
   is_told_of (event.Down link p why) = link.0 == n
   is_told_of (event.Blocked p breach) = false
 
+  -- a frame is sent on link n
+  abbrev pub is_sent_on : Action C → Bool
+  is_sent_on (action.Send link frame) = link.0 == n
+  is_sent_on _ = false
+
   -- an action of link n: a frame is sent on it, it is closed, or something is told of it
   abbrev pub is_of_link : Action C → Bool
   is_of_link (action.Send link frame) = link.0 == n

@@ -1,14 +1,16 @@
 -- Drivers: what is seen of one, what may be done, and how it stands after what it did.
-use Rattle.std.specs.Prelude.{ℕ, ◌≡◌, ◌+◌, ◌≤◌, ◌<◌, ◌*◌, ◌/◌, ◌%◌, ◌^◌, ◌&&◌, ◌⊎◌, max}
+use Rattle.std.specs.Prelude.{ℕ, ◌≡◌, ◌+◌, ◌-◌, ◌≤◌, ◌<◌, ◌*◌, ◌/◌, ◌%◌, ◌^◌, ◌&&◌, ◌⊎◌, max}
 use Rattle.std.specs.Prelude.{not, nat_lt, Bool, true, false, Result, Ok, Err}
 use Rattle.std.specs.Prelude.{List, [], ◌∷◌, ◌++◌, length, find, Option, Some, None, is_some}
-use Rattle.std.specs.Prelude.{IfSome}
+use Rattle.std.specs.Prelude.{IfSome, slice_get}
 use Rattle.std.specs.List.{count_by}
 use Rattle.std.specs.Option.{IsSomeAnd}
 use Rattle.std.specs.Duration.{as_nanos}
 use Rattle.std.specs.declared.alloc.AllocError.{AllocError}
 use Rattle.std.specs.declared.cmp.Ordering.{Ordering}
 use Rattle.std.specs.declared.time.Duration.{Duration}
+use Rattle.p2p_discovery.specs.Data.{header}
+use Rattle.p2p_discovery.specs.declared.data.EncodedData.{EncodedData}
 use Rattle.p2p_discovery.specs.declared.discovery.Payload.TheVariants as payload
 use Rattle.p2p_discovery.specs.Payload.{payload_spelling, payload_at}
 use Rattle.p2p_tracker.specs.Calls.{Settings, Call}
@@ -18,18 +20,19 @@ use Rattle.p2p_directory.specs.Run.{event_of, world_after}
 use Rattle.p2p_directory.specs.Nodes.{NodeView, Made, NodeStandsAt, made_of, standing_in}
 use Rattle.p2p_directory.specs.Received.{Wire, Standing}
 use Rattle.p2p_directory.specs.declared.node.setup.Setup.{Setup}
-use Rattle.p2p_driver.specs.Actions.{ActionsView}
+use Rattle.p2p_driver.specs.Actions.{ActionsView, is_sent_on, is_of_link}
 use Rattle.p2p_driver.specs.Answers.{AnswersView, AreKept, MayAnswer, IsClaimRefusal, roomless}
+use Rattle.p2p_driver.specs.Answers.{IsAllowedAt}
 use Rattle.p2p_driver.specs.Arrivals.{has_number, is_unclaimed, deadline_of, room_of}
 use Rattle.p2p_driver.specs.Frames.{Cause, Outcome, IsOutcome, owed_after}
-use Rattle.p2p_driver.specs.Links.{link_of, needs, is_late, is_to_ask}
+use Rattle.p2p_driver.specs.Links.{link_of, needs, is_late, is_to_ask, is_open, has_room}
 use Rattle.p2p_driver.specs.Meters.{MetersView}
 use Rattle.p2p_driver.specs.Questions.{owed_with, IsQuestion}
-use Rattle.p2p_driver.specs.Reading.{AreMetered, IsPaced}
+use Rattle.p2p_driver.specs.Reading.{AreMetered, IsPaced, rate_at, said_at, frames_read}
 use Rattle.p2p_driver.specs.Steps.{is_claim_of, no_proof_of, IsBlock, IsDone}
 use Rattle.p2p_driver.specs.Happenings.{Happening, latest_at, calls_of, next_at, stream_at}
 use Rattle.p2p_driver.specs.Happenings.{answered_in, link_count, is_proved, is_ended, link_at}
-use Rattle.p2p_driver.specs.Happenings.{said, taken, time_by}
+use Rattle.p2p_driver.specs.Happenings.{said, said_as, taken, time_by}
 use Rattle.p2p_driver.specs.declared.actions.Action.{Action}
 use Rattle.p2p_driver.specs.declared.actions.Why.{Why}
 use Rattle.p2p_driver.specs.declared.arrivals.Arrival.{Arrival}
@@ -179,15 +182,36 @@ module _ {C S : Type 0} (b : Base C S) where
     pub owes : owed ≡ owed_after held.phase outcome b.pace.owed held.owed
     pub done : IsDone b.wire b.made b.pace.refresh held.asked (calls_of h) p t outcome
     pub paced : IsPaced b.pace h n (as_nanos t) b.made.limits held cause outcome
+    pub room : IfSome (said_as t outcome) (λ at. has_room b.pace.queue held ≡ true)
 
-  -- a question was due at t for the peer p of link n, and asked if memory was there
+  -- a question was due at t for the peer p of link n, and asked if its queue had room, and memory
+  -- was there
   pub record IsAsked (h : List (Happening C S)) (n : ℕ) (p : C) (t : Duration) (owed : ℕ)
-      (question : Option Question) (held : Held) : Type 0 where
+      (fits : Bool) (question : Option Question) (held : Held) : Type 0 where
     pub number : held.number ≡ n
     pub due : is_to_ask (as_nanos b.pace.tick) (as_nanos t) held ≡ true
     pub owes : owed ≡ owed_with question b.pace.owed held.owed
     pub asks : IfSome question
         (IsQuestion b.wire b.made (world_after s (calls_of h)) b.pace.refresh held.asked)
+    pub room_is : fits ≡ has_room b.pace.queue held
+    pub room : IfSome question (λ q. fits ≡ true)
+
+  -- how many frames of link n were said that the host hasn't taken
+  abbrev pub untaken : List (Happening C S) → ℕ → ℕ
+  untaken h n = count_by (is_sent_on n) (said s b.greeting h) - count_by (is_sent_on n) (taken h)
+
+  -- a message was said on link n of p at t, on the channel at a position: the link is open, no
+  -- action of it waits to be taken, its queue has room, and once it was said one more might be by
+  -- the rate
+  pub record IsSpoken (h : List (Happening C S)) (n : ℕ) (t : Duration) (place : ℕ)
+      (held : Held) : Type 0 where
+    pub number : held.number ≡ n
+    pub opens : is_open held.phase ≡ true
+    pub taken : count_by (is_of_link n) (said s b.greeting h) ≡ count_by (is_of_link n) (taken h)
+    pub room : has_room b.pace.queue held ≡ true
+    pub after : length b.pace.channels.items ≤ place
+    pub rate : IsSomeAnd (rate_at b.pace (Some place)) (λ rate. let now = as_nanos t in
+        IsAllowedAt rate (now ∷ frames_read n (Some place) h) now)
 
   -- what may be done after a history, and when
   abbrev pub IsRight : List (Happening C S) → Happening C S → Type 0
@@ -220,8 +244,11 @@ module _ {C S : Type 0} (b : Base C S) where
       × (is_late (as_nanos b.pace.greeting) (as_nanos b.pace.silence) (as_nanos t) held ≡ true))
   IsRight h (Happening.Heard n p t owed cause outcome) =
       IsSomeAnd (link p h) (IsHeard h n p t owed cause outcome)
-  IsRight h (Happening.Asked n p t owed question) =
-      IsSomeAnd (link p h) (IsAsked h n p t owed question)
+  IsRight h (Happening.Asked n p t owed fits question) =
+      IsSomeAnd (link p h) (IsAsked h n p t owed fits question)
+  IsRight h (Happening.Written n p t) = IsSomeAnd (link p h)
+      (λ held. (held.number ≡ n) × (untaken h n < length held.unwritten))
+  IsRight h (Happening.Spoken n p t place) = IsSomeAnd (link p h) (IsSpoken h n t place)
   IsRight h (Happening.Given infos t) = Unit {0}
   IsRight h (Happening.Barred p t taken) = IsBlock b.made (calls_of h) p (as_nanos t) taken
   IsRight h (Happening.Parted p t) = is_some (link p h) ≡ true
@@ -385,6 +412,28 @@ module _ {C S : Type 0} (cmp : C → C → Ordering) (wire : Wire C S) where
   abbrev pub AnswersPart : C → ℕ → Bool → DriverView C S → DriverView C S → Type 0
   AnswersPart p now answer v v2 =
       PartedBy (is_some (link_of cmp v.links p)) answer p now v v2
+
+  -- no frame was taken of link n that isn't written: all that aren't written still wait
+  abbrev pub IsAllWritten : ℕ → DriverView C S → Type 0
+  IsAllWritten n v = (p : C) (held : Held) → link_of cmp v.links p ≡ Some held →
+      held.number ≡ n → length held.unwritten ≤ count_by (is_sent_on n) v.actions
+
+  -- `written`
+  abbrev pub AnswersWritten : ℕ → ℕ → Bool → DriverView C S → DriverView C S → Type 0
+  AnswersWritten n now true v v2 = (p : C) × DoesAt cmp wire now (λ t. Happening.Written n p t) v v2
+  AnswersWritten n now false v v2 = (v2 ≡ v) × IsAllWritten n v
+
+  -- `say`: on the link of p, on a channel that stands in the settings, with a message of so many
+  -- bytes
+  abbrev pub AnswersSay : C → ℕ → ℕ → ℕ → Option (ℕ × EncodedData) → DriverView C S →
+      DriverView C S → Type 0
+  AnswersSay p channel size now None v v2 = v2 ≡ v
+  AnswersSay p channel size now (Some (n, encoded)) v v2 = (place : ℕ)
+      × IsSomeAnd (slice_get v.pace.channels.items place)
+      (λ c. (c.number ≡ channel) × (size ≤ c.longest))
+      × (encoded.channel ≡ channel) × (encoded.payload.items ≡ header channel size ∷ [])
+      × DoesAt cmp wire now
+      (λ t. Happening.Spoken n p t (said_at v.pace.channels.items place)) v v2
 
   -- `next_action`: the first that waits, or none does
   abbrev pub AnswersNext : Option (Action C) → DriverView C S → DriverView C S → Type 0

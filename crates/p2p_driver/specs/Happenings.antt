@@ -1,7 +1,7 @@
 -- What a driver did, and what follows of it by looking back: the calls of its node, the streams,
 -- the links, and what was said. A history is the list of what was done, the newest first.
 use Rattle.std.specs.Prelude.{ℕ, ◌==◌, ◌+◌, ◌-◌, ◌&&◌, not, Bool, true, false, if◌then◌else◌}
-use Rattle.std.specs.Prelude.{List, [], ◌∷◌, ◌++◌, Option, Some, None, option_map, unwrap_or}
+use Rattle.std.specs.Prelude.{List, [], ◌∷◌, ◌++◌, drop, Option, Some, None, option_map, unwrap_or}
 use Rattle.std.specs.List.{list_any, count_by}
 use Rattle.std.specs.BTreeMap.{is_at}
 use Rattle.std.specs.Duration.{as_nanos}
@@ -14,7 +14,8 @@ use Rattle.p2p_tracker.specs.Calls.Call.{UnblockExpired, ForgetCooled}
 use Rattle.p2p_tracker.specs.History.{same, last_with}
 use Rattle.p2p_driver.specs.Questions.{asked_after, counted}
 use Rattle.p2p_driver.specs.Frames.{Cause, Outcome, waiting_by}
-use Rattle.p2p_driver.specs.Links.{closed, opened, hearing, allowing, unless_closing, is_ungreeted}
+use Rattle.p2p_driver.specs.Links.{closed, opened, hearing, allowing, saying, with_said}
+use Rattle.p2p_driver.specs.Links.{unless_closing, is_slow}
 use Rattle.p2p_driver.specs.Looked.{LookedView}
 use Rattle.p2p_discovery.specs.declared.discovery.Info.{Info}
 use Rattle.p2p_driver.specs.declared.actions.Action.{Action}
@@ -61,9 +62,14 @@ pub data Happening (C S : Type 0) : Type 0 where
   -- at t the peer p of link n was heard, and this came of it: so many questions are owed then
   Heard : (n : ℕ) (p : C) (t : Duration) (owed : ℕ) (cause : Cause) (outcome : Outcome C S) →
       Happening C S
-  -- a question was due at t for the peer p of link n, and asked if memory was there: so many
-  -- questions are owed then
-  Asked : (n : ℕ) (p : C) (t : Duration) (owed : ℕ) (question : Option Question) → Happening C S
+  -- a question was due at t for the peer p of link n, and asked if its queue had room, and memory
+  -- was there: so many questions are owed then
+  Asked : (n : ℕ) (p : C) (t : Duration) (owed : ℕ) (fits : Bool) (question : Option Question) →
+      Happening C S
+  -- the oldest frame that the host took of link n of p, and that wasn't written, is written at t
+  Written : (n : ℕ) (p : C) (t : Duration) → Happening C S
+  -- the application said a message on link n of p at t: on the channel at a position
+  Spoken : (n : ℕ) (p : C) (t : Duration) (place : ℕ) → Happening C S
   -- infos came at t from the application
   Given : (infos : List (Info C S)) (t : Duration) → Happening C S
   -- the application blocked p at t: whether that was taken
@@ -97,7 +103,9 @@ module _ {C S : Type 0} where
   time_by (Happening.StreamLate n t) = Some t
   time_by (Happening.LinkLate n p t) = Some t
   time_by (Happening.Heard n p t owed cause outcome) = Some t
-  time_by (Happening.Asked n p t owed question) = Some t
+  time_by (Happening.Asked n p t owed fits question) = Some t
+  time_by (Happening.Written n p t) = Some t
+  time_by (Happening.Spoken n p t place) = Some t
   time_by (Happening.Given infos t) = Some t
   time_by (Happening.Barred p t taken) = Some t
   time_by (Happening.Parted p t) = Some t
@@ -240,11 +248,22 @@ abbrev pub is_greeted : {C S : Type 0} → Outcome C S → Bool
 is_greeted (Outcome.Greets info question) = true
 is_greeted outcome = false
 
+-- when a question is said, if it was asked at t
+abbrev pub said_with : Duration → Option Question → Option Duration
+said_with t question = option_map (λ q. t) question
+
+-- by this outcome a frame is said, if one is: when
+abbrev pub said_as : {C S : Type 0} → Duration → Outcome C S → Option Duration
+said_as t (Outcome.Greets info question) = said_with t question
+said_as t (Outcome.Answers reply) = Some t
+said_as t outcome = None
+
 -- what it makes of what is kept of the link of the peer that was heard at t, if so many questions
 -- are owed then
 abbrev pub heard_as : {C S : Type 0} → Duration → ℕ → Outcome C S → Held → Held
 heard_as t owed (Outcome.Greets info question) held =
-    opened t owed (asked_after t question held.asked) held
+    saying (said_with t question) (opened t owed (asked_after t question held.asked) held)
+heard_as t owed (Outcome.Answers reply) held = saying (Some t) (hearing t owed None held)
 heard_as t owed (Outcome.Breaks breach blocked) held = closed held
 heard_as t owed Outcome.IsEarly held = closed held
 heard_as t owed Outcome.LacksChannel held = closed held
@@ -306,7 +325,7 @@ module _ {C S : Type 0} (s : Settings C S) where
   abbrev pub owed_by : C → Happening C S → Option ℕ
   owed_by p (Happening.Heard n q t owed cause outcome) =
       if is_heard outcome && same s q p then Some owed else None
-  owed_by p (Happening.Asked n q t owed question) = if same s q p then Some owed else None
+  owed_by p (Happening.Asked n q t owed fits question) = if same s q p then Some owed else None
   owed_by p _ = None
 
   -- by it the frame that may be handed in is this one, or none
@@ -319,9 +338,23 @@ module _ {C S : Type 0} (s : Settings C S) where
   abbrev pub tried_by : C → Happening C S → Option (Duration × Option Question)
   tried_by p (Happening.Heard n q t owed cause outcome) =
       if same s q p then tried_with t outcome else None
-  tried_by p (Happening.Asked n q t owed question) =
+  tried_by p (Happening.Asked n q t owed fits question) =
       if same s q p then Some (t, question) else None
   tried_by p _ = None
+
+  -- by it a frame is said on the link of p, if one is: when
+  abbrev pub says_on : C → Happening C S → Option Duration
+  says_on p (Happening.Heard n q t owed cause outcome) =
+      if same s q p then said_as t outcome else None
+  says_on p (Happening.Asked n q t owed fits question) =
+      if same s q p then said_with t question else None
+  says_on p (Happening.Spoken n q t place) = if same s q p then Some t else None
+  says_on p _ = None
+
+  -- .. the oldest one is written that isn't
+  abbrev pub writes_by : C → Happening C S → Bool
+  writes_by p (Happening.Written n q t) = same s q p
+  writes_by p _ = false
 
   -- .. the index of the set that was asked for, if one was
   abbrev pub index_by : C → Happening C S → Option ℕ
@@ -357,6 +390,13 @@ module _ {C S : Type 0} (s : Settings C S) where
     rounds = counted (count_by (newest_by p) since);
   }
 
+  -- when the frames were said on the link of p that aren't written, the oldest first, by when its
+  -- link began, with the own greeting, and what was done since
+  abbrev pub unwritten_in : C → Duration → List (Happening C S) → List Duration
+  unwritten_in p t [] = t ∷ []
+  unwritten_in p t (e ∷ since) = with_said (says_on p e)
+      (if writes_by p e then drop 1 (unwritten_in p t since) else unwritten_in p t since)
+
   -- what is kept of the link of p, by its number and when it began, and what was done since
   abbrev pub kept_of : C → ℕ → Duration → List (Happening C S) → Held
   kept_of p n t since =
@@ -370,6 +410,7 @@ module _ {C S : Type 0} (s : Settings C S) where
         waiting = unless_closing phase last.1;
         asked = asked_in p t since;
         looked = unless_closing phase (last_looked (last_with (looks_by p) since));
+        unwritten = unwritten_in p t since;
       }
 
   -- the link of p, by its number and when it began, and what was done since
@@ -384,10 +425,11 @@ module _ {C S : Type 0} (s : Settings C S) where
 
 -- WHAT WAS SAID
 
--- why a link is closed that is late: its peer hasn't greeted in time, or it is silent
+-- why a link is closed that is late: its peer hasn't greeted or a frame isn't written in time, or
+-- it is silent
 abbrev pub why_late : Option Held → Why
 why_late None = why.Slow
-why_late (Some held) = if is_ungreeted held then why.Slow else why.Silent
+why_late (Some held) = if is_slow held then why.Slow else why.Silent
 
 module _ {C : Type 0} where
   -- a stream is closed
@@ -468,7 +510,7 @@ module _ {C S : Type 0} (s : Settings C S) (greeting : List ℕ) where
       shut p (why_late (link_at s p h)) (link_at s p h)
   says_by h (Happening.Heard n p t owed cause outcome) =
       answered_on n p outcome (link_at s p h)
-  says_by h (Happening.Asked n p t owed question) = asking_on n question
+  says_by h (Happening.Asked n p t owed fits question) = asking_on n question
   says_by h (Happening.Barred p t taken) = shut p why.Blocked (link_at s p h)
   says_by h (Happening.Parted p t) = shut p why.Application (link_at s p h)
   says_by h _ = []

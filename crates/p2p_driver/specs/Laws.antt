@@ -1,13 +1,15 @@
 -- Words of the laws of drivers.
-use Rattle.std.specs.Prelude.{ℕ, ◌≡◌, ◌&&◌, Bool, true, false, List, [], ◌++◌, Option, Some, None}
-use Rattle.std.specs.Prelude.{if◌then◌else◌, is_some}
+use Rattle.std.specs.Prelude.{ℕ, ◌≡◌, ◌&&◌, Bool, true, false, List, [], ◌∷◌, ◌++◌}
+use Rattle.std.specs.Prelude.{Option, Some, None, if◌then◌else◌, is_some}
 use Rattle.std.specs.List.{Contains, list_any, count_by}
 use Rattle.std.specs.Duration.{as_nanos}
+use Rattle.std.specs.Option.{option_to_list}
+use Rattle.std.specs.declared.time.Duration.{Duration}
 use Rattle.p2p_tracker.specs.Calls.{Settings}
 use Rattle.p2p_tracker.specs.History.{same, last_with}
 use Rattle.p2p_driver.specs.Frames.{Cause, Outcome, begins_with}
 use Rattle.p2p_driver.specs.Frames.Cause.{OfHead}
-use Rattle.p2p_driver.specs.Happenings.{Happening, opened_by, greets_by}
+use Rattle.p2p_driver.specs.Happenings.{Happening, opened_by, greets_by, says_on, writes_by}
 use Rattle.p2p_driver.specs.declared.actions.Action.{Action}
 use Rattle.p2p_driver.specs.declared.actions.Action.TheVariants as action
 use Rattle.p2p_driver.specs.declared.actions.Why.{Why}
@@ -30,7 +32,7 @@ is_served (Outcome.Answers reply) = true
 is_served (Outcome.Delivers message) = true
 is_served outcome = false
 
--- an outcome but for what may lack memory: the question, and whether the peer is blocked
+-- an outcome but for what may lack memory, or room: the question, and whether the peer is blocked
 abbrev pub bare : {C S : Type 0} → Outcome C S → Outcome C S
 bare (Outcome.Greets info question) = Outcome.Greets info None
 bare (Outcome.Breaks breach blocked) = Outcome.Breaks breach None
@@ -107,7 +109,7 @@ module _ {C S : Type 0} (s : Settings C S) where
   -- by it p is asked for a set
   abbrev pub asks_by : C → Happening C S → Bool
   asks_by p (Happening.Heard n q t owed cause outcome) = same s q p && is_asked outcome
-  asks_by p (Happening.Asked n q t owed question) = same s q p && is_for_set question
+  asks_by p (Happening.Asked n q t owed fits question) = same s q p && is_for_set question
   asks_by p e = false
 
   -- by it a list of p is admitted
@@ -121,3 +123,15 @@ module _ {C S : Type 0} (s : Settings C S) where
 
   abbrev pub lists_on : C → List (Happening C S) → ℕ
   lists_on p h = count_by (lists_by p) (since_began p h)
+
+  -- when frames were said on the link of p by these happenings, the oldest first
+  abbrev pub said_in : C → List (Happening C S) → List Duration
+  said_in p [] = []
+  said_in p (e ∷ h) = said_in p h ++ option_to_list (says_on s p e)
+
+  -- .. on its last link, after the own greeting, and how many frames were written there
+  abbrev pub said_since : C → List (Happening C S) → List Duration
+  said_since p h = said_in p (since_began p h)
+
+  abbrev pub written_since : C → List (Happening C S) → ℕ
+  written_since p h = count_by (writes_by s p) (since_began p h)

@@ -1,6 +1,7 @@
 -- The links of a driver: peers with what is kept of the link of each, in the order of their keys.
 -- Moments and durations are nanoseconds.
-use Rattle.std.specs.Prelude.{ℕ, ◌≡◌, ◌≤◌, ◌+◌, ◌&&◌, max, min, nat_le, Bool, true, false, List}
+use Rattle.std.specs.Prelude.{ℕ, ◌≡◌, ◌≤◌, ◌+◌, ◌&&◌, ◌||◌, max, min, nat_le, nat_lt, Bool, true}
+use Rattle.std.specs.Prelude.{false, List, [], ◌∷◌, ◌++◌, length, drop}
 use Rattle.std.specs.Prelude.{Option, Some, None, option_map, unwrap_or, is_some, not}
 use Rattle.std.specs.Prelude.{if◌then◌else◌}
 use Rattle.std.specs.Duration.{as_nanos}
@@ -13,6 +14,8 @@ use Rattle.std.specs.declared.time.Duration.{Duration}
 use Rattle.p2p_driver.specs.Arrivals.{lesser_of}
 use Rattle.p2p_driver.specs.Looked.{LookedView, is_frame_of}
 use Rattle.p2p_driver.specs.declared.links.Asked.{Asked}
+use Rattle.p2p_driver.specs.declared.links.Change.{Change}
+use Rattle.p2p_driver.specs.declared.links.Change.TheVariants as change
 use Rattle.p2p_driver.specs.declared.links.Held.{Held}
 use Rattle.p2p_driver.specs.declared.links.Phase.{Phase}
 use Rattle.p2p_driver.specs.declared.links.Waiting.{Waiting}
@@ -36,7 +39,8 @@ need_at link = unwrap_or (option_map (λ h. need_of h.phase) link) 0
 abbrev pub needs : {C : Type 0} → List (C × Held) → ℕ
 needs links = sum_by (λ h. need_of h.phase) (values_of links)
 
--- a link of a peer that hasn't greeted: nothing was heard of it, or asked
+-- a link of a peer that hasn't greeted: nothing was heard of it, or asked. The own greeting is said
+-- on it at once
 abbrev pub link_with : ℕ → Duration → Held
 link_with number since = record {
   number = number;
@@ -47,6 +51,7 @@ link_with number since = record {
   waiting = None;
   asked = record { at = since; index = None; rounds = 0 };
   looked = None;
+  unwritten = since ∷ [];
 }
 
 -- the phase once the peer has greeted
@@ -89,9 +94,39 @@ allowing looked h = record h { looked = unless_closing h.phase (Some looked) }
 abbrev pub asking : ℕ → Asked → Held → Held
 asking owed asked h = record h { owed = owed; asked = asked }
 
+-- these frames that aren't written, once one more is said, if one is
+abbrev pub with_said : Option Duration → List Duration → List Duration
+with_said None unwritten = unwritten
+with_said (Some t) unwritten = unwritten ++ t ∷ []
+
+-- .. once a frame is said on it, if one is: when
+abbrev pub saying : Option Duration → Held → Held
+saying t h = record h { unwritten = with_said t h.unwritten }
+
+-- .. once the oldest frame that was said is written
+abbrev pub writing : Held → Held
+writing h = record h { unwritten = drop 1 h.unwritten }
+
+-- another frame may be said on it, if at most so many aren't written
+abbrev pub has_room : ℕ → Held → Bool
+has_room queue h = nat_lt (length h.unwritten) queue
+
+-- .. on a link that there may be
+abbrev pub has_room_at : ℕ → Option Held → Bool
+has_room_at queue link = unwrap_or (option_map (has_room queue) link) false
+
 -- .. and once it was closed
 abbrev pub closed : Held → Held
 closed h = record h { phase = Closing; waiting = None; looked = None }
+
+-- what becomes of a link by a change of it
+abbrev pub changed : Change → Held → Held
+changed (change.Opens t owed asked) h = opened t owed asked h
+changed (change.Hears t owed waiting) h = hearing t owed waiting h
+changed (change.Asks owed asked) h = asking owed asked h
+changed (change.Looks looked) h = allowing looked h
+changed change.Writes h = writing h
+changed change.Closes h = closed h
 
 -- the peer hasn't greeted yet
 abbrev pub is_greeting : Phase → Bool
@@ -128,9 +163,29 @@ one_if_greeting link =
 
 -- by when the peer of a link has to be heard: before it has greeted, and while nothing of it
 -- waits, so long after its proof; else so long after it was heard last
-abbrev pub due : ℕ → ℕ → Held → ℕ
-due greeting silence h =
+abbrev pub hear_by : ℕ → ℕ → Held → ℕ
+hear_by greeting silence h =
     if is_ungreeted h then as_nanos h.since + greeting else as_nanos h.heard + silence
+
+-- by when the oldest of these frames has to be written, if there is one: so long after it was said,
+-- which takes some time
+abbrev pub write_by : ℕ → List Duration → Option ℕ
+write_by silence [] = None
+write_by silence (t ∷ later) = Some (as_nanos t + max silence 1)
+
+-- by when something has to come of a link: the earlier of these
+abbrev pub due : ℕ → ℕ → Held → ℕ
+due greeting silence h = lesser_of (write_by silence h.unwritten) (hear_by greeting silence h)
+
+-- a frame was said before a moment, or at it, and isn't written
+abbrev pub is_unwritten_since : ℕ → List Duration → Bool
+is_unwritten_since moment [] = false
+is_unwritten_since moment (t ∷ later) = nat_le (as_nanos t) moment
+
+-- a link that is late is slow, not silent: the peer hasn't greeted, or a frame is late that was
+-- said before the peer was heard last
+abbrev pub is_slow : Held → Bool
+is_slow h = is_ungreeted h || is_unwritten_since (as_nanos h.heard) h.unwritten
 
 -- a link is late: it isn't closed, and its time is over
 abbrev pub is_late : ℕ → ℕ → ℕ → Held → Bool

@@ -20,6 +20,11 @@ abbrev pub IsRead : Rate → ℕ → ℕ → ℕ → Type 0
 IsRead rate now old new = (happened : List ℕ) → IsKeptAt rate now happened old →
     IsAllowedAt rate happened now × IsKeptAt rate now (now ∷ happened) new
 
+-- one more may happen at this moment at a rate, and then one more at once, by what is kept
+abbrev pub MayTwice : Rate → ℕ → ℕ → Type 0
+MayTwice rate now kept = (happened : List ℕ) → IsKeptAt rate now happened kept →
+    IsAllowedAt rate (now ∷ happened) now
+
 -- one more may not be read at this moment, nor at any before `next`, by what is kept. From `next`
 -- on it may, unless that is the greatest moment there is
 pub record IsEarly (rate : Rate) (now kept next : ℕ) : Type 0 where

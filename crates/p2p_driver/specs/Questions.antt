@@ -86,7 +86,7 @@ owed_with (Some q) most owed = if is_some q.index then min (owed + 1) most else 
 abbrev pub counted : ℕ → ℕ
 counted rounds = min rounds (2 ^ 64 - 1)
 
--- what is kept of questions once one was due at t, and asked if memory was there
+-- what is kept of questions once one was due at t, and asked if room and memory were there
 abbrev pub asked_after : Duration → Option Question → Asked → Asked
 asked_after t None a = record a { at = t }
 asked_after t (Some q) a = record {

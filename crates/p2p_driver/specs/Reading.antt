@@ -1,7 +1,9 @@
--- The frames of links that may be read, by those that were. A frame is of gossip, or a message on
--- the channel at a position of the settings. Moments and durations are nanoseconds.
+-- The frames of links that may be read, by those that were, and the messages that may be said. A
+-- frame is of gossip, or a message on the channel at a position: first those channels stand that
+-- are read, and then the same ones, on which messages are said. Moments and durations are
+-- nanoseconds.
 use Rattle.std.specs.Prelude.{ℕ, ◌≡◌, ◌==◌, ◌≤◌, ◌<◌, ◌&&◌, Bool, true, false, if◌then◌else◌}
-use Rattle.std.specs.Prelude.{List, [], ◌∷◌, ◌++◌, length, slice_get}
+use Rattle.std.specs.Prelude.{List, [], ◌∷◌, ◌++◌, ◌+◌, length, map, slice_get}
 use Rattle.std.specs.Prelude.{Option, Some, None, option_map}
 use Rattle.std.specs.List.{list_any}
 use Rattle.std.specs.Option.{IsSomeAnd}
@@ -41,10 +43,18 @@ kind_at_rate (Some place) = kind.Message place
 abbrev pub rate_of : Channel → Rate
 rate_of c = record { burst = c.burst; refill = c.refill }
 
--- the rate at which frames are read: of gossip, or of the channel at a position, if there is one
+-- the rates of the messages that are read, and then of those that are said
+abbrev pub rates_of : List Channel → List Rate
+rates_of channels = map rate_of channels ++ map rate_of channels
+
+-- the rate of gossip, or of the channel at a position, if there is one
 abbrev pub rate_at : Pace → Option ℕ → Option Rate
 rate_at pace None = Some (record { burst = pace.burst; refill = pace.refill })
-rate_at pace (Some place) = option_map rate_of (slice_get pace.channels.items place)
+rate_at pace (Some place) = slice_get (rates_of pace.channels.items) place
+
+-- at which position a message is said on a channel that stands at this one of the settings
+abbrev pub said_at : List Channel → ℕ → ℕ
+said_at channels place = place + length channels
 
 module _ {C S : Type 0} where
   -- by it link n began: when
@@ -57,10 +67,12 @@ module _ {C S : Type 0} where
   ends_as n (Happening.Ended m p t) = m == n
   ends_as n e = false
 
-  -- by it a frame of link n may be read: when
+  -- by it a frame of link n may be read, or a message is said on it: when
   abbrev pub read_by : ℕ → Option ℕ → Happening C S → List ℕ
   read_by n place (Happening.Heard m p t owed cause (Outcome.Reads k looked)) =
       if (m == n) && is_of place k then as_nanos t ∷ [] else []
+  read_by n place (Happening.Spoken m p t at) =
+      if (m == n) && is_of place (kind.Message at) then as_nanos t ∷ [] else []
   read_by n place e = []
 
   -- .. the newest first
@@ -73,7 +85,7 @@ module _ {C S : Type 0} where
   since_in None = []
   since_in (Some found) = found.1
 
-  -- when frames of link n were read since it began
+  -- when frames of link n were read, or said, since it began
   abbrev pub frames_read : ℕ → Option ℕ → List (Happening C S) → List ℕ
   frames_read n place h = read_in n place (since_in (last_with (begins_as n) h))
 
@@ -82,7 +94,7 @@ module _ {C S : Type 0} where
   -- .. of link n, of gossip and of each channel, by what was done since it began
   pub record IsMetered (pace : Pace) (now n : ℕ) (since : List (Happening C S)) (m : MetersView) :
       Type 0 where
-    pub count : length m.channels ≡ length pace.channels.items
+    pub count : length m.channels ≡ length pace.channels.items + length pace.channels.items
     pub kept : (place : Option ℕ) (rate : Rate) → rate_at pace place ≡ Some rate →
         IsKeptAt rate now (read_in n place since) (kept_in place m)
 

@@ -1,5 +1,6 @@
 -- Timers: what is late, and what a driver does of it when time passes.
-use Rattle.std.specs.Prelude.{ℕ, ◌≡◌, ◌+◌, ◌<◌, max, min, Bool, true, false, List, [], ◌∷◌, ◌++◌}
+use Rattle.std.specs.Prelude.{ℕ, ◌≡◌, ◌+◌, ◌<◌, ◌||◌, not, max, min, Bool, true, false}
+use Rattle.std.specs.Prelude.{List, [], ◌∷◌, ◌++◌}
 use Rattle.std.specs.Prelude.{length, find, Option, Some, None, option_map, is_some}
 use Rattle.std.specs.Prelude.{Result}
 use Rattle.std.specs.Result.{is_ok}
@@ -36,7 +37,7 @@ module _ {C S : Type 0} where
 
   -- by it a peer is asked that is to be asked at t
   abbrev pub IsAskedAt : Duration → Happening C S → Type 0
-  IsAskedAt t (Happening.Asked n p at owed question) = at ≡ t
+  IsAskedAt t (Happening.Asked n p at owed fits question) = at ≡ t
   IsAskedAt t _ = ⊥
 
   -- .. by each of them
@@ -44,9 +45,9 @@ module _ {C S : Type 0} where
   AreAskedAt t [] = Unit {0}
   AreAskedAt t (e ∷ es) = IsAskedAt t e × AreAskedAt t es
 
-  -- memory was there for it
+  -- the peer was asked, or the queue of its link had no room: memory was there for it
   abbrev pub was_asked : Happening C S → Bool
-  was_asked (Happening.Asked n p at owed question) = is_some question
+  was_asked (Happening.Asked n p at owed fits question) = is_some question || not fits
   was_asked _ = true
 
   -- how much there is that may be late: streams, and what links need
@@ -130,14 +131,16 @@ module _ {C S : Type 0} (cmp : C → C → Ordering) (wire : Wire C S) where
     pub does : DoesAll happenings v v2
     pub latest : v2.latest ≡ v.latest
 
-  -- a peer is asked that is to be asked at t, at once: whether memory was there
+  -- a peer is asked that is to be asked at t, at once, if the queue of its link has room: whether
+  -- memory was there
   pub record AsksOne (t : Duration) (asked : Bool) (v v2 : DriverView C S) : Type 0 where
     pub number : ℕ
     pub peer : C
     pub owed : ℕ
+    pub fits : Bool
     pub question : Option Question
-    pub asked_is : is_some question ≡ asked
-    pub does : Does cmp wire (Happening.Asked number peer t owed question) v v2
+    pub asked_is : (is_some question || not fits) ≡ asked
+    pub does : Does cmp wire (Happening.Asked number peer t owed fits question) v v2
     pub latest : v2.latest ≡ v.latest
     pub pace : v2.pace ≡ v.pace
     pub late : NoneLate cmp (as_nanos t) v → NoneLate cmp (as_nanos t) v2

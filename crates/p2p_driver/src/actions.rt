@@ -4,7 +4,7 @@ ghost use Rattle.std.specs.Prelude.{ℕ, ◌≡◌, ◌≤◌, ◌<◌, ◌+◌,
 ghost use Rattle.std.specs.Prelude.{OnOk, OnErr};
 ghost use Rattle.std.specs.List.{count_by};
 ghost use Rattle.std.specs.Option.{option_to_list};
-ghost use Rattle.p2p_driver.specs.Actions.{is_of_link, is_told_of};
+ghost use Rattle.p2p_driver.specs.Actions.{is_of_link, is_sent_on, is_told_of};
 
 use crate::link::Link;
 use bytes::Bytes;
@@ -51,7 +51,7 @@ pub enum Event<C> {
 pub enum Why {
     /// Others need its place, or too many claims were answered.
     Crowded,
-    /// A claim, a proof or a greeting came too late.
+    /// A claim, a proof or a greeting came too late, or a frame wasn't written in time.
     Slow,
     /// Nothing was heard of its peer for too long.
     Silent,
@@ -191,11 +191,38 @@ impl<C> Actions<C> {
             .count()
     }
 
+    /// How many frames wait that are to be sent on a link. It doesn't allocate.
+    ///
+    /// # Cost
+    ///
+    /// One pass over the actions that wait.
+    pub fn sends_on(&self, link: Link) -> usize
+        ensures { result ≡ count_by (is_sent_on link.0) self.now.items }
+    {
+        self.waiting
+            .iter()
+            .filter(|action| is_sent_on(action, link))
+            .count()
+    }
+
     /// How many actions wait.
     pub fn len(&self) -> usize
         ensures { result ≡ length self.now.items }
     {
         self.waiting.len()
+    }
+}
+
+// Whether a frame is sent on a link.
+fn is_sent_on<C>(action: &Action<C>, link: Link) -> bool
+    ensures { result ≡ is_sent_on link.0 action.now }
+{
+    match action {
+        Action::Send {
+            link: other,
+            frame: _,
+        } => other.0 == link.0,
+        _ => false,
     }
 }
 

@@ -47,8 +47,8 @@ pub enum Heard {
     Applied(usize),
     /// A question was answered.
     Answered,
-    /// An allocation failed. Nothing has changed, and the frame or the verdicts may be handed in
-    /// again.
+    /// An allocation failed, or the queue of the link has no room for a reply. Nothing has changed,
+    /// and the frame or the verdicts may be handed in again.
     Dropped,
     /// A message is to be delivered.
     Message {

@@ -1,6 +1,7 @@
 //! The conditions on the channels of a driver's settings.
 
-ghost use Rattle.std.specs.Prelude.{◌≡◌};
+ghost use Rattle.std.specs.Prelude.{◌≡◌, ◌≤◌, ◌<◌, ◌^◌, IfSome, slice_get, length};
+ghost use Rattle.std.specs.Option.{IsSomeAnd};
 ghost use Rattle.std.specs.List.{list_all};
 ghost use Rattle.std.specs.Duration.{as_nanos};
 ghost use Rattle.p2p_driver.specs.Paces.{are_distinct, has_number, is_channel, are_channels};
@@ -31,6 +32,24 @@ fn fits(channel: &Channel, longest: usize, tick: Duration) -> bool
         && 2 <= channel.burst.get()
         && 0 < refill
         && refill <= tick.as_nanos()
+}
+
+// At which position the channel with the number stands, if one does on which a message of so many
+// bytes may be said.
+pub(crate) fn place_for(channels: &[Channel], number: u64, size: usize) -> Option<usize>
+    ensures found { IfSome result (λ place. IsSomeAnd (slice_get channels.now place)
+        (λ c. (c.number ≡ number) × (size ≤ c.longest))) }
+    ensures within { IfSome result (λ place. place < length channels.now) }
+    ensures fits { IfSome result (λ place. size < 2 ^ 32) }
+{
+    let place = channels
+        .iter()
+        .position(|channel| channel.number == number)?;
+    if size <= channels[place].longest as usize {
+        Some(place)
+    } else {
+        None
+    }
 }
 
 // Whether no number stands twice.

@@ -50,7 +50,8 @@ pub(crate) fn begin<C: PublicKey>(
         held.number ≡ number → ⊥ }
     requires may { MayListen C.cmp peer (as_nanos now) node.old }
     ensures reads { OnOk result ((n : ℕ) → reads_of reads.new n ≡
-        (if n == number then Some (unread (length channels.now)) else reads_of reads.old n)) }
+        (if n == number then Some (unread (length channels.now + length channels.now))
+        else reads_of reads.old n)) }
     ensures made { OnOk result (Makes C.cmp
         (Listen peer (as_nanos now) (as_nanos draw) ∷ []) node.old node.new) }
     ensures links { OnOk result ((q : C) → link_of C.cmp links.new q ≡
@@ -64,7 +65,11 @@ pub(crate) fn begin<C: PublicKey>(
         × (links.new ≡ links.old) × (actions.new.items ≡ actions.old.items)) }
 {
     let frame = greeting.clone()?;
-    reads.begin(number, channels.len())?;
+    // Those that are read, and those that are said.
+    let Some(places) = channels.len().checked_add(channels.len()) else {
+        return Err(AllocError);
+    };
+    reads.begin(number, places)?;
     if let Err(failed) = links.put(peer, number, now) {
         reads.end(number);
         return Err(failed);
@@ -167,12 +172,13 @@ fn tell_close<C: Copy>(actions: &mut Actions<C>, number: u64, phase: Phase, peer
     }
 }
 
-// Why the late link of a peer is closed: the peer hasn't greeted in time, or it is silent.
+// Why the late link of a peer is closed: the peer hasn't greeted or a frame isn't written in time,
+// or it is silent.
 pub(crate) fn why_late<C: PublicKey>(links: &Links<C>, peer: &C) -> Why
     ensures { result ≡ why_late (link_of C.cmp links.now peer.now) }
 {
     match links.get(peer) {
-        Some(held) if !held.is_ungreeted() => Why::Silent,
+        Some(held) if !held.is_slow() => Why::Silent,
         _ => Why::Slow,
     }
 }

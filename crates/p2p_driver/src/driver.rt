@@ -37,6 +37,7 @@ mod queries;
 mod reading;
 mod sets;
 mod timers;
+mod writing;
 
 pub use crate::driver::queries::Counts;
 pub use crate::driver::sets::Tracked;

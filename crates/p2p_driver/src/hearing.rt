@@ -8,10 +8,11 @@ ghost use Rattle.std.specs.Duration.{as_nanos};
 ghost use Rattle.std.specs.Option.{IsSomeAnd};
 ghost use Rattle.p2p_discovery.specs.declared.discovery.Info.{Info};
 ghost use Rattle.p2p_tracker.specs.Calls.Call.{Connect};
-ghost use Rattle.p2p_driver.specs.Links.{link_of, needs, asking, is_to_ask, to_ask};
+ghost use Rattle.p2p_driver.specs.Links.{link_of, needs, has_room_at, asking, saying};
+ghost use Rattle.p2p_driver.specs.Links.{is_to_ask, to_ask};
 ghost use Rattle.p2p_driver.specs.Frames.{owed_after};
 ghost use Rattle.p2p_driver.specs.Frames.Outcome.{Breaks, Greets, IsEarly, LacksChannel};
-ghost use Rattle.p2p_driver.specs.Happenings.{asking_on};
+ghost use Rattle.p2p_driver.specs.Happenings.{asking_on, said_with};
 ghost use Rattle.p2p_driver.specs.Hearing.{Follows};
 ghost use Rattle.p2p_driver.specs.Questions.{asked_after, owed_with, IsNextQuestion};
 ghost use Rattle.p2p_driver.specs.Steps.{IsBlocked, Makes, MakesFor, MayConnect};
@@ -22,6 +23,7 @@ use crate::actions::{Action, Actions, Breach, Event, Why};
 use crate::link::Link;
 use crate::links::{Asked, Links};
 use crate::pace::Pace;
+use crate::questions::Question;
 use crate::{connections, questions, steps};
 use p2p_directory::node::Node;
 use p2p_directory::node::wire::Frames;
@@ -88,8 +90,54 @@ pub(crate) fn shut_unknown<C: PublicKey>(
     connections::shut(links, actions, peer, Why::NoChannel);
 }
 
+// A frame is said on the link of a peer: if the queue of the link has room, and memory suffices.
+// False, and nothing changes, if not.
+pub(crate) fn say<C: PublicKey>(links: &mut Links<C>, pace: &Pace, peer: &C, now: Duration) -> bool
+    ensures links { result ≡ true → (q : C) → link_of C.cmp links.new q ≡
+        (if is_at (C.cmp peer.now) q then option_map (saying (Some now)) (link_of C.cmp links.old q)
+        else link_of C.cmp links.old q) }
+    ensures room { result ≡ true →
+        has_room_at pace.now.queue (link_of C.cmp links.old peer.now) ≡ true }
+    ensures unchanged { result ≡ false → links.new ≡ links.old }
+    ensures count { length links.new ≡ length links.old }
+    ensures needs { needs links.new ≡ needs links.old }
+    ensures to_ask { (tick t : ℕ) → to_ask tick t links.new ≡ to_ask tick t links.old }
+{
+    links.has_room(peer, pace.queue) && links.say(peer, now)
+}
+
+// The question that is due next for the peer of a link, which is said on it: if the queue of the
+// link has room, and memory suffices. Else nothing changes.
+fn say_question<C: PublicKey>(
+    node: &Node<C>,
+    links: &mut Links<C>,
+    pace: &Pace,
+    asked: &Asked,
+    peer: &C,
+    now: Duration,
+) -> Option<Question>
+    ensures next { IfSome result (λ question. IsNextQuestion C.cmp ⟦<C as Frames>⟧.wire
+        pace.now.refresh asked.now question node.now) }
+    ensures room { IfSome result (λ question.
+        has_room_at pace.now.queue (link_of C.cmp links.old peer.now) ≡ true) }
+    ensures links { (q : C) → link_of C.cmp links.new q ≡ (if is_at (C.cmp peer.now) q
+        then option_map (saying (said_with now result)) (link_of C.cmp links.old q)
+        else link_of C.cmp links.old q) }
+    ensures count { length links.new ≡ length links.old }
+    ensures needs { needs links.new ≡ needs links.old }
+    ensures to_ask { (tick t : ℕ) → to_ask tick t links.new ≡ to_ask tick t links.old }
+{
+    let question = questions::next(node, asked, pace.refresh)?;
+    if say(links, pace, peer, now) {
+        Some(question)
+    } else {
+        None
+    }
+}
+
 // The peer of a link has greeted, and its info is applied: it is connected, told to be up, and
-// asked, if memory suffices. There is room for three actions more than links need.
+// asked, if the queue of its link has room, and memory suffices. There is room for three actions
+// more than links need.
 pub(crate) fn greet<C: PublicKey>(
     node: &mut Node<C>,
     links: &mut Links<C>,
@@ -107,14 +155,17 @@ pub(crate) fn greet<C: PublicKey>(
     ensures made { Makes C.cmp (Connect peer.now false ∷ []) node.old node.new }
     ensures greets { (info : Info C C.Signature) → (question : Option Question)
         × IfSome question (λ question. IsNextQuestion C.cmp ⟦<C as Frames>⟧.wire
-        pace.now.refresh asked question node.new) × Follows C.cmp number peer.now now
+        pace.now.refresh asked question node.new)
+        × IfSome question (λ question.
+        has_room_at pace.now.queue (link_of C.cmp links.old peer.now) ≡ true)
+        × Follows C.cmp number peer.now now
         (owed_after Phase.Greeting (Greets info question) pace.now.owed owed)
         (Greets info question) links.old links.new actions.old.items actions.new.items }
     ensures room { needs links.new + actions.old.room ≤ actions.new.room + needs links.old + 3 }
 {
     steps::connect(node, peer);
     actions.push(Action::Told(Event::Up(Link(number), *peer)));
-    match questions::next(node, &asked, pace.refresh) {
+    match say_question(node, links, pace, &asked, peer, now) {
         Some(question) => {
             let owed = question.owed(owed, pace.owed);
             links.open(peer, now, owed, question.after(&asked, now));
@@ -130,8 +181,9 @@ pub(crate) fn greet<C: PublicKey>(
     }
 }
 
-// A question is due for the peer of an open link: it is asked, if memory suffices. It returns
-// whether it was. There is room for one action more than links need.
+// A question is due for the peer of an open link: it is asked, if the queue of its link has room,
+// and memory suffices. It returns whether it was. There is room for one action more than links
+// need.
 pub(crate) fn ask<C: PublicKey>(
     node: &Node<C>,
     links: &mut Links<C>,
@@ -147,10 +199,12 @@ pub(crate) fn ask<C: PublicKey>(
     ensures asks { (question : Option Question) × (is_some question ≡ result)
         × IfSome question (λ question. IsNextQuestion C.cmp ⟦<C as Frames>⟧.wire
         pace.now.refresh asked question node.now)
+        × IfSome question (λ question.
+        has_room_at pace.now.queue (link_of C.cmp links.old peer.now) ≡ true)
         × ((q : C) → link_of C.cmp links.new q ≡ (if is_at (C.cmp peer.now) q
-        then option_map (asking (owed_with question pace.now.owed owed)
-        (asked_after now question asked)) (link_of C.cmp links.old q)
-        else link_of C.cmp links.old q))
+        then option_map (λ h. asking (owed_with question pace.now.owed owed)
+        (asked_after now question asked) (saying (said_with now question) h))
+        (link_of C.cmp links.old q) else link_of C.cmp links.old q))
         × (actions.new.items ≡ actions.old.items ++ asking_on number question) }
     ensures count { length links.new ≡ length links.old }
     ensures needs { needs links.new ≡ needs links.old }
@@ -159,7 +213,7 @@ pub(crate) fn ask<C: PublicKey>(
         IsSomeAnd (link_of C.cmp links.old peer.now) (λ h. is_to_ask tick t h ≡ true) →
         to_ask tick t links.new + 1 ≡ to_ask tick t links.old }
 {
-    match questions::next(node, &asked, pace.refresh) {
+    match say_question(node, links, pace, &asked, peer, now) {
         Some(question) => {
             let owed = question.owed(owed, pace.owed);
             links.ask(peer, owed, question.after(&asked, now));

@@ -2,7 +2,7 @@
 
 ghost use Rattle.std.specs.Prelude.{ℕ, ◌≡◌, ◌≤◌, ◌&&◌, not, if◌then◌else◌, true, List, ◌∷◌, ◌++◌};
 ghost use Rattle.std.specs.Prelude.{◌<◌, ◌+◌, ◌-◌, ◌*◌, false, length, map, Some, None, is_some};
-ghost use Rattle.std.specs.Prelude.{Option, option_map};
+ghost use Rattle.std.specs.Prelude.{Option, option_map, drop, max};
 ghost use Rattle.std.specs.Duration.{as_nanos};
 ghost use Rattle.std.specs.Int.NonZero.{non_zero_u32_get};
 ghost use Rattle.std.specs.List.{Contains, count_by};
@@ -25,7 +25,7 @@ ghost use Rattle.p2p_driver.specs.Frames.{Cause, Outcome};
 ghost use Rattle.p2p_driver.specs.Links.{link_of, closed};
 ghost use Rattle.p2p_driver.specs.Laws.{Begins, closes, is_served, is_set, HasGreeted};
 ghost use Rattle.p2p_driver.specs.Laws.{has_greeted, cut_by, Blames, bare, asked_on, lists_on};
-ghost use Rattle.p2p_driver.specs.Laws.{is_head};
+ghost use Rattle.p2p_driver.specs.Laws.{is_head, said_since, written_since};
 ghost use Rattle.p2p_driver.specs.Reading.{rate_at, frames_read};
 ghost use Rattle.p2p_driver.specs.Drivers.{DriverView, Base, DriverStandsAt, AreRight, link};
 ghost use Rattle.p2p_driver.specs.Drivers.{IsRight, may_come, no_proof};
@@ -194,8 +194,8 @@ pub fn claims_in_time<C: PublicKey>()
 
 /// By a law of drivers, no more frames of a link are read in a window of time than a burst, and one
 /// more for each refill of the window's length: of gossip at the rate of the settings, and of the
-/// messages of a channel at its rate, whatever a driver did that it might do. Frames count from
-/// when the link began.
+/// messages of a channel at its rate, whatever a driver did that it might do. So it is of the
+/// messages that are said on a channel. Frames count from when the link began.
 pub fn frames_in_time<C: PublicKey>()
     ensures { (b : Base C C.Signature) (h : List (Happening C C.Signature)) → AreRight b h →
         (n : ℕ) (place : Option ℕ) (rate : Rate) → rate_at b.pace place ≡ Some rate →
@@ -235,7 +235,7 @@ pub fn greeting_first<C: PublicKey>()
 /// - Each block that the node is called for was asked for by the application, or its peer broke a
 ///   rule on its link then.
 /// - Of a link, what was done before and what came decide what comes of it, but for whether memory
-///   is there to ask or to block. Frames are those of nodes.
+///   is there to block, and memory and room in the queue to ask. Frames are those of nodes.
 /// - Of the first bytes of a frame these, its length and the time decide.
 pub fn blame<C: PublicKey>()
     ensures blocks { (h : List (Happening C C.Signature)) (p : C) (now : ℕ) →
@@ -275,6 +275,27 @@ pub fn few_signatures<C: PublicKey>()
         IsRight b h (Heard n p t owed cause (Outcome.Waits w)) →
         IsSomeAnd (link b p h) (λ held. held.phase ≡ Phase.Open) →
         w.count ≤ b.made.verifier.greatest_count }
+{}
+
+/// By a law of drivers, few frames of a link were said and aren't written, whatever a driver did
+/// that it might do.
+///
+/// - There are at most `queue` of them, or one, if `queue` is 0: the own greeting.
+/// - They are the frames that were said on the link, the own greeting first, but for as many of the
+///   first as were written.
+/// - No more were written than were said.
+pub fn few_unwritten<C: PublicKey>()
+    ensures bound { (b : Base C C.Signature) → b.made.directory.cmp ≡ C.cmp →
+        (h : List (Happening C C.Signature)) → AreRight b h → (p : C) (held : Held) →
+        link b p h ≡ Some held → length held.unwritten ≤ max b.pace.queue 1 }
+    ensures are { (b : Base C C.Signature) → b.made.directory.cmp ≡ C.cmp →
+        (h : List (Happening C C.Signature)) → AreRight b h → (p : C) (held : Held) →
+        link b p h ≡ Some held → let s = b.made.directory in
+        held.unwritten ≡ drop (written_since s p h) (held.since ∷ said_since s p h) }
+    ensures within { (b : Base C C.Signature) → b.made.directory.cmp ≡ C.cmp →
+        (h : List (Happening C C.Signature)) → AreRight b h → (p : C) (held : Held) →
+        link b p h ≡ Some held → let s = b.made.directory in
+        written_since s p h ≤ length (held.since ∷ said_since s p h) }
 {}
 
 /// By a law of drivers, little is said at a time.

@@ -9,15 +9,18 @@ ghost use Rattle.std.specs.Map.{keys_of, values_of, remove_entry, set_value};
 ghost use Rattle.std.specs.Option.{IsSomeAnd};
 ghost use Rattle.std.specs.BTreeMap.{is_at, get, insert_entry};
 ghost use Rattle.p2p_driver.specs.Links.{link_of, need_at, needs, link_with, one_if_greeting};
-ghost use Rattle.p2p_driver.specs.Links.{opened, hearing, asking, allowing, closed};
-ghost use Rattle.p2p_driver.specs.Links.{is_ungreeted, is_timed};
+ghost use Rattle.p2p_driver.specs.Links.{opened, hearing, asking, allowing, saying, writing};
+ghost use Rattle.p2p_driver.specs.Links.{closed, changed, has_room, has_room_at};
+ghost use Rattle.p2p_driver.specs.Links.{is_ungreeted, is_slow, is_timed};
 ghost use Rattle.p2p_driver.specs.Links.{is_open, ask_at, is_to_ask, to_ask, next_of};
-ghost use Rattle.p2p_driver.specs.Links.{unless_closing, is_unexpected};
-ghost use Rattle.p2p_driver.specs.Links.{due, is_late, sooner_of, least_due};
+ghost use Rattle.p2p_driver.specs.Links.{is_unexpected, hear_by, due, is_late};
 ghost use Rattle.p2p_driver.specs.Links.{AreNumbered, AreAlike, IsLeastDue};
 ghost use Rattle.p2p_driver.specs.declared.links.Held.{Held};
 
+use crate::deadlines::{first_late, first_to_ask, first_to_ask_from, next_due};
 use crate::looked::Looked;
+use crate::rate::after;
+use crate::unwritten::Unwritten;
 use bytes::Bytes;
 use std::alloc::{AllocError, Global};
 use std::collections::BTreeMap;
@@ -51,8 +54,8 @@ pub struct Waiting {
 /// What is kept of the questions that a peer is asked on its link.
 #[derive(Clone, Copy, Debug, PartialEq, Eq)]
 pub struct Asked {
-    /// When a question was due last, a steady time: it was asked then, unless an allocation failed.
-    /// At first, when the peer's key was proved.
+    /// When a question was due last, a steady time: it was asked then, unless an allocation failed,
+    /// or too many frames weren't written. At first, when the peer's key was proved.
     pub at: Duration,
     /// The index of the set that was asked for last, if one was.
     pub index: Option<u64>,
@@ -79,73 +82,100 @@ pub struct Held {
     pub asked: Asked,
     /// The frame that may be handed in next, if one may.
     pub looked: Option<Looked>,
+    /// The frames that were said on it and aren't written: at first, the own greeting.
+    pub unwritten: Unwritten,
+}
+
+// What becomes of a link.
+#[derive(Drop)]
+pub(crate) enum Change {
+    // The peer has greeted: when, how many questions wait for their replies then, and what is kept
+    // of them.
+    Opens(Duration, usize, Asked),
+    // The peer is heard: when, how many questions wait for their replies then, and what waits.
+    Hears(Duration, usize, Option<Waiting>),
+    // The peer is asked: how many questions wait for their replies then, and what is kept of them.
+    Asks(usize, Asked),
+    // This frame may be handed in.
+    Looks(Looked),
+    // The oldest frame that was said is written.
+    Writes,
+    // It is closed.
+    Closes,
 }
 
 impl Held {
-    // What is kept of the link once its peer has greeted, with so many questions.
-    fn opened(&self, now: Duration, owed: usize, asked: Asked) -> Held
-        ensures { result ≡ opened now owed asked self.now }
+    // What is kept of the link after a change.
+    fn change(&mut self, change: Change)
+        ensures { self.new ≡ changed change self.old }
     {
-        let phase = match self.phase {
-            Phase::Greeting => Phase::Open,
-            phase => phase,
-        };
-        Held {
-            number: self.number,
-            phase,
-            since: self.since,
-            heard: now,
-            owed,
-            waiting: None,
-            asked,
-            looked: None,
+        match change {
+            Change::Opens(now, owed, asked) => self.open(now, owed, asked),
+            Change::Hears(now, owed, waiting) => self.hear(now, owed, waiting),
+            Change::Asks(owed, asked) => {
+                self.owed = owed;
+                self.asked = asked;
+            }
+            Change::Looks(looked) => {
+                self.looked = match self.phase {
+                    Phase::Closing => None,
+                    _ => Some(looked),
+                };
+            }
+            Change::Writes => self.unwritten.pop(),
+            Change::Closes => self.close(),
         }
     }
 
-    // What is kept of the link once its peer was heard, with so many questions, and what waits.
-    fn hearing(&self, now: Duration, owed: usize, waiting: Option<Waiting>) -> Held
-        ensures { result ≡ hearing now owed waiting self.now }
+    // The peer has greeted.
+    fn open(&mut self, now: Duration, owed: usize, asked: Asked)
+        ensures { self.new ≡ opened now owed asked self.old }
     {
-        let waiting = match self.phase {
+        if self.phase == Phase::Greeting {
+            self.phase = Phase::Open;
+        }
+        self.heard = now;
+        self.owed = owed;
+        self.waiting = None;
+        self.asked = asked;
+        self.looked = None;
+    }
+
+    // The peer is heard.
+    fn hear(&mut self, now: Duration, owed: usize, waiting: Option<Waiting>)
+        ensures { self.new ≡ hearing now owed waiting self.old }
+    {
+        self.heard = now;
+        self.owed = owed;
+        self.waiting = match self.phase {
             Phase::Closing => None,
             _ => waiting,
         };
-        Held {
-            number: self.number,
-            phase: self.phase,
-            since: self.since,
-            heard: now,
-            owed,
-            waiting,
-            asked: self.asked,
-            looked: None,
-        }
+        self.looked = None;
     }
 
-    // What is kept of the link once this frame may be handed in.
-    fn allowing(&self, looked: Looked) -> Option<Looked>
-        ensures { result ≡ unless_closing self.now.phase (Some looked) }
+    // The link is closed.
+    fn close(&mut self)
+        ensures { self.new ≡ closed self.old }
     {
-        match self.phase {
-            Phase::Closing => None,
-            _ => Some(looked),
-        }
+        self.phase = Phase::Closing;
+        self.waiting = None;
+        self.looked = None;
     }
 
-    // What is kept of the link once it was closed.
-    fn closed(&self) -> Held
-        ensures { result ≡ closed self.now }
+    // A frame is said, if memory suffices. False, and nothing changes, if it doesn't.
+    fn say(&mut self, now: Duration) -> bool
+        ensures said { result ≡ true → self.new ≡ saying (Some now) self.old }
+        ensures unchanged { result ≡ false → self.new ≡ self.old }
     {
-        Held {
-            number: self.number,
-            phase: Phase::Closing,
-            since: self.since,
-            heard: self.heard,
-            owed: self.owed,
-            waiting: None,
-            asked: self.asked,
-            looked: None,
-        }
+        self.unwritten.push(now).is_ok()
+    }
+
+    // Whether another frame may be said, if at most `queue` aren't written.
+    pub(crate) fn has_room(&self, queue: usize) -> bool
+        ensures { result ≡ has_room queue self.now }
+    {
+        self.unwritten.len() < queue
     }
 
     // Whether the link isn't closed, and the frame isn't the one that may be handed in.
@@ -169,20 +199,38 @@ impl Held {
     }
 
     // Whether the link isn't closed.
-    fn is_timed(&self) -> bool
+    pub(crate) fn is_timed(&self) -> bool
         ensures { result ≡ is_timed self.now.phase }
     {
         self.phase != Phase::Closing
     }
 
+    // Whether the link is slow, if it is late.
+    pub(crate) fn is_slow(&self) -> bool
+        ensures { result ≡ is_slow self.now }
+    {
+        self.is_ungreeted() || self.unwritten.is_since(self.heard)
+    }
+
     // By when the peer has to be heard, in nanoseconds.
-    fn due(&self, greeting: Duration, silence: Duration) -> u128
-        ensures { result ≡ due (as_nanos greeting) (as_nanos silence) self.now }
+    fn hear_by(&self, greeting: Duration, silence: Duration) -> u128
+        ensures { result ≡ hear_by (as_nanos greeting) (as_nanos silence) self.now }
     {
         if self.is_ungreeted() {
             after(self.since, greeting)
         } else {
             after(self.heard, silence)
+        }
+    }
+
+    // By when the peer has to be heard, or a frame to be written, in nanoseconds.
+    fn due(&self, greeting: Duration, silence: Duration) -> u128
+        ensures { result ≡ due (as_nanos greeting) (as_nanos silence) self.now }
+    {
+        let hear_by = self.hear_by(greeting, silence);
+        match self.unwritten.write_by(silence) {
+            Some(write_by) => write_by.min(hear_by),
+            None => hear_by,
         }
     }
 
@@ -202,14 +250,14 @@ impl Held {
     }
 
     // Whether the peer is to be asked.
-    fn is_to_ask(&self, tick: Duration, now: Duration) -> bool
+    pub(crate) fn is_to_ask(&self, tick: Duration, now: Duration) -> bool
         ensures { result ≡ is_to_ask (as_nanos tick) (as_nanos now) self.now }
     {
         self.is_open() && self.ask_at(tick) <= now.as_nanos()
     }
 
     // When something is due of the link next, in nanoseconds.
-    fn next(&self, greeting: Duration, silence: Duration, tick: Duration) -> u128
+    pub(crate) fn next(&self, greeting: Duration, silence: Duration, tick: Duration) -> u128
         ensures { result
             ≡ next_of (as_nanos greeting) (as_nanos silence) (as_nanos tick) self.now }
     {
@@ -222,7 +270,7 @@ impl Held {
     }
 
     // Whether the link is late.
-    fn is_late(&self, greeting: Duration, silence: Duration, now: Duration) -> bool
+    pub(crate) fn is_late(&self, greeting: Duration, silence: Duration, now: Duration) -> bool
         ensures { result
             ≡ is_late (as_nanos greeting) (as_nanos silence) (as_nanos now) self.now }
     {
@@ -235,6 +283,7 @@ impl Held {
 /// the peers' keys.
 #[derive(Drop)]
 pub struct Links<C: Ord + Copy> {
+    alloc: Global,
     of_peers: BTreeMap<C, Held>,
     // By number.
     peers: BTreeMap<u64, C>,
@@ -263,6 +312,7 @@ impl<C: Ord + Copy> Links<C> {
         ensures { result ≡ [] }
     {
         Links {
+            alloc,
             of_peers: BTreeMap::new(alloc),
             peers: BTreeMap::new(alloc),
         }
@@ -317,7 +367,7 @@ impl<C: Ord + Copy> Links<C> {
     }
 
     /// Keeps a link of the peer, whose key was proved at the steady time `since`, and which hasn't
-    /// greeted. All other links stay.
+    /// greeted. The own greeting is said on it then. All other links stay.
     ///
     /// # Conditions
     ///
@@ -343,6 +393,7 @@ impl<C: Ord + Copy> Links<C> {
         ensures needs { OnOk result (needs self.new ≡ needs self.old + 1) }
         ensures err { OnErr result (self.new ≡ self.old) }
     {
+        let unwritten = Unwritten::new(self.alloc, since)?;
         insert(&mut self.peers, number, peer)?;
         let held = Held {
             number,
@@ -357,6 +408,7 @@ impl<C: Ord + Copy> Links<C> {
                 rounds: 0,
             },
             looked: None,
+            unwritten,
         };
         if let Err(failed) = insert(&mut self.of_peers, peer, held) {
             let _peer = self.peers.remove(&number);
@@ -380,10 +432,7 @@ impl<C: Ord + Copy> Links<C> {
         ensures needs { needs self.new ≡
             needs self.old + one_if_greeting (link_of C.cmp self.old peer.now) }
     {
-        if let Some(held) = self.of_peers.get(peer) {
-            let opened = held.opened(now, owed, asked);
-            write(&mut self.of_peers, peer, opened);
-        }
+        apply(&mut self.of_peers, peer, Change::Opens(now, owed, asked));
     }
 
     /// Notes that the peer was asked, if it has a link: how many questions wait for their replies
@@ -402,7 +451,7 @@ impl<C: Ord + Copy> Links<C> {
             IsSomeAnd (link_of C.cmp self.old peer.now) (λ h. is_to_ask tick now h ≡ true) →
             to_ask tick now self.new + 1 ≡ to_ask tick now self.old }
     {
-        note(&mut self.of_peers, peer, owed, asked);
+        apply(&mut self.of_peers, peer, Change::Asks(owed, asked));
     }
 
     /// Notes that the peer was heard, if it has a link: when, how many questions wait for their
@@ -418,10 +467,7 @@ impl<C: Ord + Copy> Links<C> {
         ensures count { length self.new ≡ length self.old }
         ensures needs { needs self.new ≡ needs self.old }
     {
-        if let Some(held) = self.of_peers.get(peer) {
-            let heard = held.hearing(now, owed, waiting);
-            write(&mut self.of_peers, peer, heard);
-        }
+        apply(&mut self.of_peers, peer, Change::Hears(now, owed, waiting));
     }
 
     /// Notes that this frame may be handed in on the peer's link, if it has one that isn't closed.
@@ -437,7 +483,58 @@ impl<C: Ord + Copy> Links<C> {
         ensures count { length self.new ≡ length self.old }
         ensures needs { needs self.new ≡ needs self.old }
     {
-        allow(&mut self.of_peers, peer, looked);
+        apply(&mut self.of_peers, peer, Change::Looks(looked));
+    }
+
+    /// Whether another frame may be said on the peer's link, if at most `queue` that were said on
+    /// it aren't written. False if it has no link. It doesn't allocate.
+    ///
+    /// # Cost
+    ///
+    /// One search among the links.
+    pub fn has_room(&self, peer: &C, queue: usize) -> bool
+        ensures { result ≡ has_room_at queue (link_of C.cmp self.now peer.now) }
+    {
+        match self.of_peers.get(peer) {
+            Some(held) => held.has_room(queue),
+            None => false,
+        }
+    }
+
+    /// Notes that a frame is said on the peer's link at this time, if it has one. All other links
+    /// stay. It returns whether memory suffices, and the peer has a link. If not, nothing changes.
+    ///
+    /// # Cost
+    ///
+    /// One search among the links. The times of the frames that aren't written may be moved once.
+    pub fn say(&mut self, peer: &C, now: Duration) -> bool
+        ensures links { result ≡ true → (q : C) → link_of C.cmp self.new q ≡
+            (if is_at (C.cmp peer.now) q
+            then option_map (saying (Some now)) (link_of C.cmp self.old q)
+            else link_of C.cmp self.old q) }
+        ensures linked { result ≡ true → is_some (link_of C.cmp self.old peer.now) ≡ true }
+        ensures unchanged { result ≡ false → self.new ≡ self.old }
+        ensures count { length self.new ≡ length self.old }
+        ensures needs { needs self.new ≡ needs self.old }
+        ensures to_ask { (tick t : ℕ) → to_ask tick t self.new ≡ to_ask tick t self.old }
+    {
+        say(&mut self.of_peers, peer, now)
+    }
+
+    /// Notes that the oldest frame that was said on the peer's link is written, if it has a link,
+    /// and there is such a frame. All other links stay. It doesn't allocate.
+    ///
+    /// # Cost
+    ///
+    /// One search among the links.
+    pub fn write(&mut self, peer: &C)
+        ensures links { (q : C) → link_of C.cmp self.new q ≡ (if is_at (C.cmp peer.now) q
+            then option_map writing (link_of C.cmp self.old q)
+            else link_of C.cmp self.old q) }
+        ensures count { length self.new ≡ length self.old }
+        ensures needs { needs self.new ≡ needs self.old }
+    {
+        apply(&mut self.of_peers, peer, Change::Writes);
     }
 
     /// Notes that the peer's link is closed, if it has one. All other links stay. It doesn't
@@ -454,10 +551,7 @@ impl<C: Ord + Copy> Links<C> {
         ensures needs { needs self.new + need_at (link_of C.cmp self.old peer.now) ≡
             needs self.old }
     {
-        if let Some(held) = self.of_peers.get(peer) {
-            let closed = held.closed();
-            write(&mut self.of_peers, peer, closed);
-        }
+        apply(&mut self.of_peers, peer, Change::Closes);
     }
 
     /// Keeps the peer's link no longer, and returns what was kept of it, or `None` if it has none.
@@ -483,8 +577,9 @@ impl<C: Ord + Copy> Links<C> {
 
     /// The first peer, in ascending order of the keys, whose link is late at the steady time `now`:
     /// it isn't closed, and before the peer has greeted, and while nothing of it waits, `greeting`
-    /// has passed since its key was proved, else `silence` since it was heard last. `None` if none
-    /// is late. It doesn't allocate.
+    /// has passed since its key was proved, else `silence` since it was heard last. Or `silence`,
+    /// or a nanosecond if that is 0, has passed since the oldest frame was said on it that isn't
+    /// written. `None` if none is late. It doesn't allocate.
     ///
     /// # Cost
     ///
@@ -525,6 +620,29 @@ impl<C: Ord + Copy> Links<C> {
         first_to_ask(&self.of_peers, tick, now)
     }
 
+    /// A peer that is to be asked at the steady time `now`, as in [`to_ask`](Self::to_ask), or
+    /// `None` if none is. They are searched from the key `from` on, and then all of them, which no
+    /// contract claims. It doesn't allocate.
+    ///
+    /// # Cost
+    ///
+    /// One search, and a pass over the links from there on to the peer; if there is none, one pass
+    /// over the links.
+    pub fn to_ask_from(&self, from: Option<C>, tick: Duration, now: Duration) -> Option<C>
+        ensures found { IfSome result (λ peer. IsSomeAnd (link_of C.cmp self.now peer)
+            (λ held. is_to_ask (as_nanos tick) (as_nanos now) held ≡ true)) }
+        ensures none { IfNone result ((q : C) (held : Held) →
+            link_of C.cmp self.now q ≡ Some held →
+            is_to_ask (as_nanos tick) (as_nanos now) held ≡ false) }
+    {
+        if let Some(from) = from {
+            if let Some(peer) = first_to_ask_from(&self.of_peers, from, tick, now) {
+                return Some(peer);
+            }
+        }
+        self.to_ask(tick, now)
+    }
+
     /// The first moment, in nanoseconds, at which a link is late, as in [`late`](Self::late), or
     /// its peer is to be asked, as in [`to_ask`](Self::to_ask). `None` if there is no link that
     /// isn't closed. It doesn't allocate.
@@ -540,13 +658,6 @@ impl<C: Ord + Copy> Links<C> {
         let _count = self.of_peers.len();
         next_due(&self.of_peers, greeting, silence, tick)
     }
-}
-
-// The moment so long after another, in nanoseconds.
-fn after(moment: Duration, span: Duration) -> u128
-    ensures { result ≡ as_nanos moment + as_nanos span }
-{
-    moment.as_nanos() + span.as_nanos()
 }
 
 // Inserts a value at a key of which there is none.
@@ -570,112 +681,30 @@ fn insert<K: Ord + Copy, V: Drop>(
     }
 }
 
-// Writes this over what is kept of the peer's link.
-fn write<C: Ord>(of_peers: &mut BTreeMap<C, Held>, peer: &C, held: Held)
-    ensures { of_peers.new.entries ≡ set_value (is_at (C.cmp peer.now)) of_peers.old.entries held }
-{
-    if let Some(kept) = of_peers.get_mut(peer) {
-        *kept = held;
-    }
-}
-
-// Notes of the peer's link, if it is kept, that so many questions wait, and what is kept of them.
-fn note<C: Ord>(of_peers: &mut BTreeMap<C, Held>, peer: &C, owed: usize, asked: Asked)
+// Changes what is kept of the peer's link, if it is kept.
+fn apply<C: Ord>(of_peers: &mut BTreeMap<C, Held>, peer: &C, change: Change)
     ensures noted { (held : Held) → link_of C.cmp of_peers.old.entries peer.now ≡ Some held →
         of_peers.new.entries
-        ≡ set_value (is_at (C.cmp peer.now)) of_peers.old.entries (asking owed asked held) }
+        ≡ set_value (is_at (C.cmp peer.now)) of_peers.old.entries (changed change held) }
     ensures none { link_of C.cmp of_peers.old.entries peer.now ≡ None →
         of_peers.new.entries ≡ of_peers.old.entries }
 {
     if let Some(kept) = of_peers.get_mut(peer) {
-        kept.owed = owed;
-        kept.asked = asked;
+        kept.change(change);
     }
 }
 
-// Notes of the peer's link, if it is kept, that this frame may be handed in, unless it is closed.
-fn allow<C: Ord>(of_peers: &mut BTreeMap<C, Held>, peer: &C, looked: Looked)
-    ensures noted { (held : Held) → link_of C.cmp of_peers.old.entries peer.now ≡ Some held →
-        of_peers.new.entries
-        ≡ set_value (is_at (C.cmp peer.now)) of_peers.old.entries (allowing looked held) }
-    ensures none { link_of C.cmp of_peers.old.entries peer.now ≡ None →
-        of_peers.new.entries ≡ of_peers.old.entries }
+// Notes that a frame is said on the peer's link, if it is kept, and memory suffices.
+fn say<C: Ord>(of_peers: &mut BTreeMap<C, Held>, peer: &C, now: Duration) -> bool
+    ensures said { result ≡ true → (held : Held) →
+        link_of C.cmp of_peers.old.entries peer.now ≡ Some held → of_peers.new.entries
+        ≡ set_value (is_at (C.cmp peer.now)) of_peers.old.entries (saying (Some now) held) }
+    ensures linked { result ≡ true →
+        is_some (link_of C.cmp of_peers.old.entries peer.now) ≡ true }
+    ensures unchanged { result ≡ false → of_peers.new.entries ≡ of_peers.old.entries }
 {
-    if let Some(kept) = of_peers.get_mut(peer) {
-        kept.looked = kept.allowing(looked);
-    }
-}
-
-// The first peer whose link is late.
-fn first_late<C: Ord + Copy>(
-    of_peers: &BTreeMap<C, Held>,
-    greeting: Duration,
-    silence: Duration,
-    now: Duration,
-) -> Option<C>
-    ensures { result ≡ option_map (λ e. e.0)
-        (find (λ e. is_late (as_nanos greeting) (as_nanos silence) (as_nanos now) e.1)
-        of_peers.now.entries) }
-{
-    for (peer, held) in of_peers {
-        if held.is_late(greeting, silence, now) {
-            return Some(*peer);
-        }
-    }
-    None
-}
-
-// The first peer that is to be asked.
-fn first_to_ask<C: Ord + Copy>(
-    of_peers: &BTreeMap<C, Held>,
-    tick: Duration,
-    now: Duration,
-) -> Option<C>
-    ensures { result ≡ option_map (λ e. e.0)
-        (find (λ e. is_to_ask (as_nanos tick) (as_nanos now) e.1) of_peers.now.entries) }
-{
-    for (peer, held) in of_peers {
-        if held.is_to_ask(tick, now) {
-            return Some(*peer);
-        }
-    }
-    None
-}
-
-// The first moment, in nanoseconds, at which something is due of a link.
-fn next_due<C: Ord>(
-    of_peers: &BTreeMap<C, Held>,
-    greeting: Duration,
-    silence: Duration,
-    tick: Duration,
-) -> Option<u128>
-    ensures { result ≡ least_due (next_of (as_nanos greeting) (as_nanos silence) (as_nanos tick))
-        None (values_of of_peers.now.entries) }
-{
-    let mut next = None;
-    for (_, held) in of_peers {
-        next = sooner(next, held, greeting, silence, tick);
-    }
-    next
-}
-
-// The moment, or that at which something is due of the link, if that is sooner.
-fn sooner(
-    next: Option<u128>,
-    held: &Held,
-    greeting: Duration,
-    silence: Duration,
-    tick: Duration,
-) -> Option<u128>
-    ensures { result ≡ sooner_of (next_of (as_nanos greeting) (as_nanos silence) (as_nanos tick))
-        next held.now }
-{
-    if !held.is_timed() {
-        return next;
-    }
-    let due = held.next(greeting, silence, tick);
-    match next {
-        Some(other) => Some(other.min(due)),
-        None => Some(due),
+    match of_peers.get_mut(peer) {
+        Some(kept) => kept.say(now),
+        None => false,
     }
 }

@@ -1,9 +1,9 @@
 //! What was read of one link, of gossip and of each channel, and when one more frame may be.
 
 ghost use Rattle.std.specs.Prelude.{◌≡◌, ◌≢◌, ◌<◌, ℕ, None, IfOk, IfSome, length, replicate};
-ghost use Rattle.std.specs.Prelude.{slice_index, min};
+ghost use Rattle.std.specs.Prelude.{slice_index, min, true};
 ghost use Rattle.std.specs.Duration.{as_nanos, max_nanos};
-ghost use Rattle.p2p_driver.specs.Meters.{IsRead, IsEarly, next_of};
+ghost use Rattle.p2p_driver.specs.Meters.{IsRead, IsEarly, MayTwice, next_of};
 
 use crate::rate::{Bucket, Rate, saturated};
 use std::alloc::{AllocError, Global};
@@ -51,6 +51,13 @@ impl Meters {
         })
     }
 
+    /// How many channels there are. It doesn't allocate.
+    pub fn len(&self) -> usize
+        ensures { result ≡ length self.now.channels }
+    {
+        self.channels.len()
+    }
+
     /// Takes a frame of gossip at the time `now` and returns `None`, if one more may be read then
     /// at the rate at which all were. Else it returns the first time at which one more may, or the
     /// greatest `Duration` if that is earlier, and nothing changes. What is kept of channels stays.
@@ -93,6 +100,28 @@ impl Meters {
     {
         take(&mut self.channels[place], rate, now)
     }
+
+    /// Whether one more message of the channel at a position may be taken at the time `now`, and
+    /// then one more at once, at the rate at which all of that channel were. It doesn't allocate.
+    ///
+    /// # Conditions
+    ///
+    /// There are more channels than `place`.
+    pub fn may_take_two(&self, place: usize, rate: Rate, now: Duration) -> bool
+        requires { place < length self.now.channels }
+        ensures { result ≡ true →
+            MayTwice rate (as_nanos now) (slice_index self.now.channels place) }
+    {
+        may_twice(self.channels[place], rate, now)
+    }
+}
+
+// Whether one more may happen at the time `now`, and then one more at once.
+fn may_twice(bucket: Bucket, rate: Rate, now: Duration) -> bool
+    ensures { result ≡ true → MayTwice rate (as_nanos now) bucket }
+{
+    let mut then = bucket;
+    then.take(rate, now) && then.next(rate) <= now.as_nanos()
 }
 
 // Takes one at the time `now`, if one more may happen. Else it returns the first time at which one

@@ -141,7 +141,8 @@ impl Question {
     }
 }
 
-// What is kept of a link's questions once one was due, which an allocation failed for.
+// What is kept of a link's questions once one was due that isn't asked: an allocation failed, or
+// the queue of its link has no room.
 pub(crate) fn tried(asked: &Asked, now: Duration) -> Asked
     ensures { result ≡ asked_after now None asked.now }
 {

@@ -120,3 +120,10 @@ pub fn at_most()
         AreAllowed burst refill happened →
         (from size : ℕ) → count_in from size happened * refill ≤ burst * refill + size }
 {}
+
+// The moment so long after another, in nanoseconds.
+pub(crate) fn after(moment: Duration, span: Duration) -> u128
+    ensures { result ≡ as_nanos moment + as_nanos span }
+{
+    moment.as_nanos() + span.as_nanos()
+}

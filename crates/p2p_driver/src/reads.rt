@@ -8,7 +8,7 @@ ghost use Rattle.std.specs.Duration.{as_nanos, max_nanos};
 ghost use Rattle.std.specs.BTreeMap.{is_at, insert_entry};
 ghost use Rattle.std.specs.Map.{remove_entry};
 ghost use Rattle.std.specs.Ordering.{nat_cmp};
-ghost use Rattle.p2p_driver.specs.Meters.{MetersView, IsEarly};
+ghost use Rattle.p2p_driver.specs.Meters.{MetersView, IsEarly, MayTwice};
 ghost use Rattle.p2p_driver.specs.Reads.{reads_of, unread, kept_in, HasPlace, Takes};
 
 use crate::meters::Meters;
@@ -18,8 +18,10 @@ use std::collections::BTreeMap;
 use std::marker::Model;
 use std::time::Duration;
 
-/// What is kept of the frames that were read of all links, by the numbers of the links. A contract
-/// sees the list of them, in ascending order of the numbers.
+/// What is kept of the frames that were read of all links, by the numbers of the links. A driver
+/// has two channels here for each of the settings: first those of which messages are read, and then
+/// those on which they are said. A contract sees the list of them, in ascending order of the
+/// numbers.
 #[derive(Drop)]
 pub struct Reads {
     alloc: Global,
@@ -132,6 +134,23 @@ impl Reads {
             return None;
         };
         take(meters, place, rate, now)
+    }
+
+    /// Whether one more message of the link with the number may be taken at the time `now`, and
+    /// then one more at once: of the channel at that position, at the rate at which all of them
+    /// were. False if the link isn't kept, or has no such channel. It doesn't allocate.
+    ///
+    /// # Cost
+    ///
+    /// One search among the links.
+    pub fn may_take_two(&self, number: u64, place: usize, rate: Rate, now: Duration) -> bool
+        ensures { result ≡ true → IsSomeAnd (reads_of self.now number) (λ m.
+            HasPlace (Some place) m × MayTwice rate (as_nanos now) (kept_in (Some place) m)) }
+    {
+        match self.of_links.get(&number) {
+            Some(meters) => place < meters.len() && meters.may_take_two(place, rate, now),
+            None => false,
+        }
     }
 }
 

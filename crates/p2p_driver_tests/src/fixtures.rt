@@ -107,14 +107,30 @@ pub fn ipv4(last: u8) -> [u8; 16] {
     [0, 0, 0, 0, 0, 0, 0, 0, 0, 0, 255, 255, 10, 0, 0, last]
 }
 
-/// Takes the next action of a tested driver.
-pub fn next(driver: &mut Driver<TestKey>) -> Said {
+/// Takes the next action of a tested driver. A frame that is sent isn't written by that.
+pub fn take(driver: &mut Driver<TestKey>) -> Said {
     match driver.next_action() {
         Some(Action::Send { link, frame: _ }) => Said::Sent(link.0),
         Some(Action::Close { link, why }) => Said::Closed(link.0, why),
         Some(Action::Told(event)) => Said::Told(event),
         None => Said::Nothing,
     }
+}
+
+/// Takes so many actions of a tested driver, and writes none of the frames that are sent.
+pub fn take_all(driver: &mut Driver<TestKey>, count: usize) {
+    for _ in 0..count {
+        take(driver);
+    }
+}
+
+/// Takes the next action of a tested driver. A frame that is sent is written, at the latest time.
+pub fn next(driver: &mut Driver<TestKey>) -> Said {
+    let said = take(driver);
+    if let Said::Sent(link) = said {
+        driver.written(Link(link), at(0));
+    }
+    said
 }
 
 /// Takes the next two actions of a tested driver.
@@ -254,7 +270,8 @@ pub fn greet(
 }
 
 /// Has a tested driver track peers by a line such as `track 0 1,2`, lets peer 1 in at 1 s, and has
-/// it greet at 2 s with an info of 1 s. What is said is taken. Returns whether it greeted.
+/// it greet at 2 s with an info of 1 s. What is said is taken and written. Returns whether it
+/// greeted.
 pub fn open(alloc: Global, driver: &mut Driver<TestKey>, line: &'static str) -> Result<bool, Fail> {
     track(alloc, driver, line, 0)?;
     prove(driver, 1, 1, 1_000)?;
@@ -264,10 +281,14 @@ pub fn open(alloc: Global, driver: &mut Driver<TestKey>, line: &'static str) -> 
     Ok(heard == Ok(Heard::Greeted))
 }
 
-/// Whether the next action of a tested driver sends this frame on link 1.
+/// Whether the next action of a tested driver sends this frame on link 1. A frame that is sent is
+/// written, at the latest time.
 pub fn sends(driver: &mut Driver<TestKey>, frame: &[u8]) -> bool {
     match driver.next_action() {
-        Some(Action::Send { link, frame: sent }) => link == Link(1) && sent.as_slice() == frame,
+        Some(Action::Send { link, frame: sent }) => {
+            driver.written(link, at(0));
+            link == Link(1) && sent.as_slice() == frame
+        }
         _ => false,
     }
 }

@@ -1,26 +1,8 @@
-//! Tests of a driver and its parts, with moments and numbers of the rules. They may use the crates
-//! of the library, and `lines`; no crate uses them.
+//! Tests of a driver, with moments and numbers of the rules. They may use the crates of the library,
+//! and `lines`; no crate uses them.
 #![tactic(auto)]
 
-#[cfg(test)]
-mod actions;
-#[cfg(test)]
-mod answers;
-#[cfg(test)]
-mod arrivals;
 #[cfg(test)]
 mod driver;
 #[cfg(test)]
 mod fixtures;
-#[cfg(test)]
-mod heads;
-#[cfg(test)]
-mod links;
-#[cfg(test)]
-mod looked;
-#[cfg(test)]
-mod meters;
-#[cfg(test)]
-mod paces;
-#[cfg(test)]
-mod rates;

@@ -25,7 +25,9 @@ impl<C: PublicKey> Driver<C> {
     /// The first frame of a peer has to be a greeting with the info of its own key. It waits for a
     /// verdict on its signature, which [`Driver::judged`] brings. After that a message is to be
     /// delivered, a question is answered, and a list of infos waits for verdicts, if a question is
-    /// owed. A list that nobody asked for is ignored, but the empty one is heard.
+    /// owed. A list that nobody asked for is ignored, but the empty one is heard. A question that
+    /// finds `queue` frames that were said on the link and aren't written is `Dropped`: nothing
+    /// changes, and it may be handed in again.
     ///
     /// A peer that breaks a rule is blocked, and its link is closed as a breach: `NoGreeting`,
     /// `OtherGreeting`, `SecondGreeting`, `Codec`, `Malformed` or `Invalid`. If an allocation for
@@ -137,6 +139,10 @@ impl<C: PublicKey> Driver<C> {
                 Admission::Heard(Heard::Dropped)
             }
             Served::Reply(frame) => {
+                if !hearing::say(&mut self.links, &self.pace, peer, time) {
+                    self.actions.give_back(1);
+                    return Admission::Heard(Heard::Dropped);
+                }
                 self.latest = time;
                 self.links.hear(peer, time, owed, None);
                 self.actions.push(Action::Send { link, frame });
@@ -168,6 +174,7 @@ impl<C: PublicKey> Driver<C> {
     /// the future closes the link as `Future` alone. Infos are judged by the wall time at which
     /// their frame came.
     ///
+    /// The first question is left out if `queue` frames that were said on the link aren't written.
     /// If an allocation fails, nothing has changed, but that the first question may be left out,
     /// or a block.
     ///

@@ -3,7 +3,7 @@
 ghost use Rattle.std.specs.Prelude.{ℕ, ◌≡◌, ◌+◌, ◌<◌, Some, IfSome, length as count};
 ghost use Rattle.std.specs.Duration.{as_nanos};
 ghost use Rattle.p2p_driver.specs.Admissions.{AnswersLength, LooksOn};
-ghost use Rattle.p2p_driver.specs.Reading.{kind_at_rate, rate_at};
+ghost use Rattle.p2p_driver.specs.Reading.{kind_at_rate, rate_at, said_at};
 ghost use Rattle.p2p_driver.specs.declared.heads.Kind.TheVariants as Kind;
 
 use crate::actions::Breach;
@@ -150,6 +150,19 @@ impl<C: PublicKey> Driver<C> {
     }
 }
 
+// The rate of the channel at a position of the settings.
+pub(crate) fn rate_of(pace: &Pace, place: usize) -> Rate
+    requires { place < count pace.now.channels.items }
+    ensures read { rate_at pace.now (Some place) ≡ Some result }
+    ensures said { rate_at pace.now (Some (said_at pace.now.channels.items place)) ≡ Some result }
+{
+    let channel = &pace.channels[place];
+    Rate {
+        burst: channel.burst,
+        refill: channel.refill,
+    }
+}
+
 // The rate of gossip, or of the channel at a position.
 fn rate_at(pace: &Pace, place: Option<usize>) -> Rate
     requires { IfSome place (λ place. place < count pace.now.channels.items) }
@@ -160,12 +173,6 @@ fn rate_at(pace: &Pace, place: Option<usize>) -> Rate
             burst: pace.burst,
             refill: pace.refill,
         },
-        Some(place) => {
-            let channel = &pace.channels[place];
-            Rate {
-                burst: channel.burst,
-                refill: channel.refill,
-            }
-        }
+        Some(place) => rate_of(pace, place),
     }
 }

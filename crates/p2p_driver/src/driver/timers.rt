@@ -24,15 +24,16 @@ use std::time::Duration;
 impl<C: PublicKey> Driver<C> {
     /// Does what is due: cooldowns are forgotten and blocks end whose time is over, and each
     /// stream that is late is closed as `Slow`: one that hasn't claimed in time, or hasn't been
-    /// proved in time. So is each link whose peer hasn't greeted in time. A link whose peer wasn't
-    /// heard for too long is closed as `Silent`: after its greeting, or while it waits for its
-    /// verdict.
+    /// proved in time. So is each link whose peer hasn't greeted in time, or of which a frame isn't
+    /// written within `silence` after it was said. A link whose peer wasn't heard for too long is
+    /// closed as `Silent`: after its greeting, or while it waits for its verdict.
     ///
     /// Each peer whose link is open, and for which a question was due a `tick` ago, is asked for
     /// the infos that are wanted of the next set: that with the next greater index than the one
     /// that it was asked for last, or else with the least. Each `refresh`-th round of the newest
     /// set asks for all its infos, but the first doesn't. If there is no set, the empty list is
-    /// sent.
+    /// sent. A peer isn't asked if `queue` frames of its link were said and aren't written: it is
+    /// as if it had been, and the next question is due a `tick` later.
     ///
     /// None of these is due afterwards: [`Driver::next_timeout`] is later than now, unless that is
     /// the greatest `Duration`. Before the time that it returns, nothing is due: only the time goes
@@ -45,10 +46,10 @@ impl<C: PublicKey> Driver<C> {
     ///
     /// # Cost
     ///
-    /// One pass over the streams and the links for each that is closed or asked, and two more, that
-    /// of [`Node::ask`](p2p_directory::node::Node::ask) for each that is asked, that of
-    /// [`Node::forget_cooled`](p2p_directory::node::Node::forget_cooled), and that of
-    /// [`Node::unblock_expired`](p2p_directory::node::Node::unblock_expired).
+    /// One pass over the streams and the links for each that is closed, and three more. Some
+    /// searches among the links and that of [`Node::ask`](p2p_directory::node::Node::ask) for each
+    /// that is asked. That of [`Node::forget_cooled`](p2p_directory::node::Node::forget_cooled),
+    /// and that of [`Node::unblock_expired`](p2p_directory::node::Node::unblock_expired).
     pub fn timeout(&mut self, now: Now) -> Result<(), AllocError>
         ensures did { let wire = ⟦<C as Frames>⟧.wire in
             TimesOut C.cmp wire (as_nanos now.steady) result self.old self.new }
@@ -148,7 +149,9 @@ impl<C: PublicKey> Driver<C> {
         ensures same { NoneToAsk C.cmp (as_nanos now) self.old → self.new ≡ self.old }
     {
         let mut all = Ok(());
-        'due: while let Some(peer) = self.links.to_ask(self.pace.tick, now) {
+        let mut last = None;
+        'due: while let Some(peer) = self.links.to_ask_from(last, self.pace.tick, now) {
+            last = Some(peer);
             if !self.ask(&peer, now) {
                 all = Err(AllocError);
             }
@@ -156,7 +159,8 @@ impl<C: PublicKey> Driver<C> {
         all
     }
 
-    // Asks a peer that is to be asked now. False if an allocation fails.
+    // Asks a peer that is to be asked now, if the queue of its link has room. False if an
+    // allocation fails.
     fn ask(&mut self, peer: &C, now: Duration) -> bool
         requires time { self.old.latest ≡ as_nanos now }
         requires due { IsSomeAnd (link_of C.cmp self.old.links peer.now) (λ held.
@@ -168,6 +172,10 @@ impl<C: PublicKey> Driver<C> {
             return false;
         };
         let (number, owed, asked) = (held.number, held.owed, held.asked);
+        if !held.has_room(self.pace.queue) {
+            self.links.ask(peer, owed, questions::tried(&asked, now));
+            return true;
+        }
         if self.actions.reserve(1).is_err() {
             self.links.ask(peer, owed, questions::tried(&asked, now));
             return false;

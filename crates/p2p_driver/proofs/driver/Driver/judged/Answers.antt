@@ -78,7 +78,7 @@ invariant_of-self-in-Greeted g c =
           c.self.inside.next c.self.inside.arrivals c.self.inside.answers c.self.inside.reads c.self.inside.links c.self.inside.actions.items) c.self.invariant.0 c.in-Some.peer c.in-Some-get.held.now linked c.in-Some-waiting.waiting c.in-Some-waiting.is)
           (search rules)
           c.in-Greeted.ensures.0 greets.0 c.judge-judged.new.node c.greet.new.node c.greet.new.links c.greet.new.actions.items
-          (c.in-Greeted.ensures.1 greets.0) c.in-Greeted.ensures.2 c.greet.ensures.made greets.1 (follows_from (search rules) greets.2)),
+          (c.in-Greeted.ensures.1 greets.0) c.in-Greeted.ensures.2 c.greet.ensures.made greets.1 greets.2 (follows_from (search rules) greets.3)),
       record {
         actions_fit = (let f0 = c.reserve.ensures.room in let f1 = c.greet.ensures.room in let fits = c.self.invariant.1.actions_fit in grind (arith));
         answers_fit = c.self.invariant.1.answers_fit;
@@ -99,7 +99,7 @@ returns-in-Greeted g c =
     c.self.inside.next c.self.inside.arrivals c.self.inside.answers c.self.inside.reads c.self.inside.links c.self.inside.actions.items) c.self.invariant.0 c.in-Some.peer c.in-Some-get.held.now linked c.in-Some-waiting.waiting c.in-Some-waiting.is)
     (search rules)
     c.in-Greeted.ensures.0 greets.0 c.judge-judged.new.node c.greet.new.node c.greet.new.links c.greet.new.actions.items
-    (c.in-Greeted.ensures.1 greets.0) c.in-Greeted.ensures.2 c.greet.ensures.made greets.1 (follows_from (search rules) greets.2))
+    (c.in-Greeted.ensures.1 greets.0) c.in-Greeted.ensures.2 c.greet.ensures.made greets.1 greets.2 (follows_from (search rules) greets.3))
 
 pub invariant_of-self-in-Applied : goal.invariant_of-self-in-Applied
 invariant_of-self-in-Applied g c =

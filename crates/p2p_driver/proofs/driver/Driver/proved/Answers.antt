@@ -1,4 +1,4 @@
-use Rattle.std.proofs.Common.{◌==◌, Some, ap, sym, ◌∙◌, arith, length}
+use Rattle.std.proofs.Common.{◌==◌, ◌+◌, Some, ap, sym, ◌∙◌, arith, length}
 use Rattle.std.specs.Prelude.{if◌then◌else◌}
 use Rattle.std.specs.Duration.{as_nanos}
 use Rattle.p2p_driver.specs.Reads.{reads_of, unread}
@@ -69,7 +69,7 @@ invariant_of-self-in-None g c = (
       c.begin.new.actions.items (sym c.get.ensures ∙ c.in-Some.is)
       (λ given calls stands. sym c.in-None.is ∙ c.no_proof.ensures given calls stands)
       (no_earlier _ _ _ c.later-now.ensures) c.in_default-begin.ensures.made (λ j. c.in_default-begin.ensures.reads j
-      ∙ ap (λ xs. if j == c.args.link.0 then Some (unread (length xs)) else reads_of c.self.inside.reads j) c.as_slice.ensures.value) c.in_default-begin.ensures.links c.in_default-begin.ensures.count c.leave.ensures.arrivals c.leave.ensures.answers c.in_default-begin.ensures.said),
+      ∙ ap (λ xs. if j == c.args.link.0 then Some (unread (length xs + length xs)) else reads_of c.self.inside.reads j) c.as_slice.ensures.value) c.in_default-begin.ensures.links c.in_default-begin.ensures.count c.leave.ensures.arrivals c.leave.ensures.answers c.in_default-begin.ensures.said),
   record {
     actions_fit = (let fewer = c.leave.ensures.fewer in let more = c.in_default-begin.ensures.needs in
         let room = c.in_default-begin.ensures.room in let fits = c.self.invariant.1.actions_fit in grind (arith));
@@ -88,7 +88,7 @@ returns-in_default-begin g c = proof_answered g.C.Ord.cmp _ c.args.link.0 c.args
     c.begin.new.actions.items (sym c.get.ensures ∙ c.in-Some.is)
     (λ given calls stands. sym c.in-None.is ∙ c.no_proof.ensures given calls stands)
     (no_earlier _ _ _ c.later-now.ensures) c.in_default-begin.ensures.made (λ j. c.in_default-begin.ensures.reads j
-    ∙ ap (λ xs. if j == c.args.link.0 then Some (unread (length xs)) else reads_of c.self.inside.reads j) c.as_slice.ensures.value) c.in_default-begin.ensures.links c.in_default-begin.ensures.count c.leave.ensures.arrivals c.leave.ensures.answers c.in_default-begin.ensures.said)
+    ∙ ap (λ xs. if j == c.args.link.0 then Some (unread (length xs + length xs)) else reads_of c.self.inside.reads j) c.as_slice.ensures.value) c.in_default-begin.ensures.links c.in_default-begin.ensures.count c.leave.ensures.arrivals c.leave.ensures.answers c.in_default-begin.ensures.said)
 
 -- how keys are, by the type of the keys
 abbrev wire_in : (g : given.Over) → Wire g.row.C.Denot g.row.C-Signature.Denot

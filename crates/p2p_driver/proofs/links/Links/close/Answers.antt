@@ -1,42 +1,37 @@
-use Rattle.std.proofs.Common.{◌≡◌, ◌∙◌, Some, refl, sym, ap}
+use Rattle.std.proofs.Common.{◌≡◌, ◌∙◌, Some, None, refl, ap}
 use Rattle.std.specs.BTreeMap.{is_at}
 use Rattle.std.specs.Map.{set_value}
-use Rattle.std.specs.Option.{option_copied}
+use Rattle.p2p_driver.specs.declared.links.Held.{Held}
 use Rattle.p2p_driver.specs.Links.{link_of, closed}
-use Rattle.p2p_driver.proofs.Linked.{written_at, written_count, needs_closed, inverse_on}
+use Rattle.p2p_driver.proofs.Linked.{noted_at, noted_count, noted_closed, inverse_on}
 use Rattle.p2p_driver.proofs.links.Links.close.Given.{Over}
-use Rattle.p2p_driver.proofs.links.Links.close.Goals.{After-write}
+use Rattle.p2p_driver.proofs.links.Links.close.Goals.{After-apply}
 use Rattle.p2p_driver.proofs.links.Links.close.Goals as goal
 
--- what was kept
-has : (g : Over) (c : After-write g) → link_of g.C.Ord.cmp c.args.self.now c.args.peer.now ≡ Some c.in-Some.held.now
-has g c = ap (λ ls. link_of g.C.Ord.cmp ls c.args.peer.now) (sym c.self.view_is)
-    ∙ sym c.get.ensures.value ∙ ap option_copied c.in-Some.is
+-- what was kept is written over, if anything was
+noted : (g : Over) (c : After-apply g) (held : Held) → link_of g.C.Ord.cmp c.args.self.now c.args.peer.now ≡ Some held →
+    c.apply.new.of_peers.entries ≡ set_value (is_at (g.C.Ord.cmp c.args.peer.now)) c.args.self.now (closed held)
+noted g c held has = c.apply.ensures.noted held (ap (λ ls. link_of g.C.Ord.cmp ls c.args.peer.now) c.self.view_is ∙ has)
+    ∙ ap (λ ls. set_value (is_at (g.C.Ord.cmp c.args.peer.now)) ls (closed held)) c.self.view_is
 
--- .. is written over
-is : (g : Over) (c : After-write g) → c.write.new.of_peers.entries
-    ≡ set_value (is_at (g.C.Ord.cmp c.args.peer.now)) c.args.self.now (closed c.in-Some.held.now)
-is g c = c.write.ensures
-    ∙ ap (λ ls. set_value (is_at (g.C.Ord.cmp c.args.peer.now)) ls c.closed-closed.result) c.self.view_is
-    ∙ ap (set_value (is_at (g.C.Ord.cmp c.args.peer.now)) c.args.self.now) c.closed-closed.ensures
+none : (g : Over) (c : After-apply g) → link_of g.C.Ord.cmp c.args.self.now c.args.peer.now ≡ None →
+    c.apply.new.of_peers.entries ≡ c.args.self.now
+none g c has = c.apply.ensures.none (ap (λ ls. link_of g.C.Ord.cmp ls c.args.peer.now) c.self.view_is ∙ has) ∙ c.self.view_is
 
 pub invariant_of-self : goal.invariant_of-self
 invariant_of-self g c =
-    inverse_on g.met.C.Ord.total c.self.inside.of_peers.entries _ c.self.invariant c.write.new.of_peers.entries
-    closed c.args.peer.now (λ h. refl) (written_at g.met.C.Ord.total c.self.inside.of_peers.entries
-    c.write.new.of_peers.entries closed c.args.peer.now c.in-Some.held.now
-    (sym c.get.ensures.value ∙ ap option_copied c.in-Some.is)
-    (c.write.ensures ∙ ap (set_value (is_at (g.C.Ord.cmp c.args.peer.now)) c.self.inside.of_peers.entries)
-    c.closed-closed.ensures))
+    inverse_on g.met.C.Ord.total c.self.inside.of_peers.entries _ c.self.invariant c.apply.new.of_peers.entries
+    closed c.args.peer.now (λ h. refl) (noted_at g.met.C.Ord.total c.self.inside.of_peers.entries
+    c.apply.new.of_peers.entries closed c.args.peer.now c.apply.ensures.noted c.apply.ensures.none)
 
-pub returns-in-Some-clause-links : goal.returns-in-Some-clause-links
-returns-in-Some-clause-links g c = written_at g.met.C.Ord.total c.args.self.now c.write.new.of_peers.entries
-    closed c.args.peer.now c.in-Some.held.now (has g c) (is g c)
+pub returns-clause-links : goal.returns-clause-links
+returns-clause-links g c = noted_at g.met.C.Ord.total c.args.self.now c.apply.new.of_peers.entries
+    closed c.args.peer.now (noted g c) (none g c)
 
-pub returns-in-Some-clause-count : goal.returns-in-Some-clause-count
-returns-in-Some-clause-count g c = written_count g.met.C.Ord.total c.args.self.now c.write.new.of_peers.entries
-    closed c.args.peer.now c.in-Some.held.now (has g c) (is g c)
+pub returns-clause-count : goal.returns-clause-count
+returns-clause-count g c = noted_count g.met.C.Ord.total c.args.self.now c.apply.new.of_peers.entries
+    closed c.args.peer.now (noted g c) (none g c)
 
-pub returns-in-Some-clause-needs : goal.returns-in-Some-clause-needs
-returns-in-Some-clause-needs g c = needs_closed g.met.C.Ord.total c.args.self.now c.write.new.of_peers.entries
-    c.args.peer.now c.in-Some.held.now (has g c) (is g c)
+pub returns-clause-needs : goal.returns-clause-needs
+returns-clause-needs g c = noted_closed g.met.C.Ord.total c.args.self.now c.apply.new.of_peers.entries c.args.peer.now
+    (noted g c) (none g c)

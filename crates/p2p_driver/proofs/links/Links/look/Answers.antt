@@ -5,33 +5,33 @@ use Rattle.p2p_driver.specs.declared.links.Held.{Held}
 use Rattle.p2p_driver.specs.Links.{link_of, allowing}
 use Rattle.p2p_driver.proofs.Linked.{noted_at, noted_count, noted_needs, inverse_on}
 use Rattle.p2p_driver.proofs.links.Links.look.Given.{Over}
-use Rattle.p2p_driver.proofs.links.Links.look.Goals.{After-allow}
+use Rattle.p2p_driver.proofs.links.Links.look.Goals.{After-apply}
 use Rattle.p2p_driver.proofs.links.Links.look.Goals as goal
 
 -- what was kept is written over, if anything was
-noted : (g : Over) (c : After-allow g) (held : Held) → link_of g.C.Ord.cmp c.args.self.now c.args.peer.now ≡ Some held →
-    c.allow.new.of_peers.entries ≡ set_value (is_at (g.C.Ord.cmp c.args.peer.now)) c.args.self.now (allowing c.args.looked held)
-noted g c held has = c.allow.ensures.noted held (ap (λ ls. link_of g.C.Ord.cmp ls c.args.peer.now) c.self.view_is ∙ has)
+noted : (g : Over) (c : After-apply g) (held : Held) → link_of g.C.Ord.cmp c.args.self.now c.args.peer.now ≡ Some held →
+    c.apply.new.of_peers.entries ≡ set_value (is_at (g.C.Ord.cmp c.args.peer.now)) c.args.self.now (allowing c.args.looked held)
+noted g c held has = c.apply.ensures.noted held (ap (λ ls. link_of g.C.Ord.cmp ls c.args.peer.now) c.self.view_is ∙ has)
     ∙ ap (λ ls. set_value (is_at (g.C.Ord.cmp c.args.peer.now)) ls (allowing c.args.looked held)) c.self.view_is
 
-none : (g : Over) (c : After-allow g) → link_of g.C.Ord.cmp c.args.self.now c.args.peer.now ≡ None →
-    c.allow.new.of_peers.entries ≡ c.args.self.now
-none g c has = c.allow.ensures.none (ap (λ ls. link_of g.C.Ord.cmp ls c.args.peer.now) c.self.view_is ∙ has) ∙ c.self.view_is
+none : (g : Over) (c : After-apply g) → link_of g.C.Ord.cmp c.args.self.now c.args.peer.now ≡ None →
+    c.apply.new.of_peers.entries ≡ c.args.self.now
+none g c has = c.apply.ensures.none (ap (λ ls. link_of g.C.Ord.cmp ls c.args.peer.now) c.self.view_is ∙ has) ∙ c.self.view_is
 
 pub invariant_of-self : goal.invariant_of-self
 invariant_of-self g c =
-    inverse_on g.met.C.Ord.total c.self.inside.of_peers.entries _ c.self.invariant c.allow.new.of_peers.entries
+    inverse_on g.met.C.Ord.total c.self.inside.of_peers.entries _ c.self.invariant c.apply.new.of_peers.entries
     (allowing c.args.looked) c.args.peer.now (λ h. refl) (noted_at g.met.C.Ord.total c.self.inside.of_peers.entries
-    c.allow.new.of_peers.entries (allowing c.args.looked) c.args.peer.now c.allow.ensures.noted c.allow.ensures.none)
+    c.apply.new.of_peers.entries (allowing c.args.looked) c.args.peer.now c.apply.ensures.noted c.apply.ensures.none)
 
 pub returns-clause-links : goal.returns-clause-links
-returns-clause-links g c = noted_at g.met.C.Ord.total c.args.self.now c.allow.new.of_peers.entries
+returns-clause-links g c = noted_at g.met.C.Ord.total c.args.self.now c.apply.new.of_peers.entries
     (allowing c.args.looked) c.args.peer.now (noted g c) (none g c)
 
 pub returns-clause-count : goal.returns-clause-count
-returns-clause-count g c = noted_count g.met.C.Ord.total c.args.self.now c.allow.new.of_peers.entries
+returns-clause-count g c = noted_count g.met.C.Ord.total c.args.self.now c.apply.new.of_peers.entries
     (allowing c.args.looked) c.args.peer.now (noted g c) (none g c)
 
 pub returns-clause-needs : goal.returns-clause-needs
-returns-clause-needs g c = noted_needs g.met.C.Ord.total c.args.self.now c.allow.new.of_peers.entries
+returns-clause-needs g c = noted_needs g.met.C.Ord.total c.args.self.now c.apply.new.of_peers.entries
     (allowing c.args.looked) c.args.peer.now (noted g c) (none g c) (λ h. refl)

@@ -1,9 +1,0 @@
-use Rattle.std.proofs.Common.{◌≡◌, find}
-use Rattle.std.specs.Duration.{as_nanos}
-use Rattle.p2p_driver.specs.Links.{is_to_ask}
-use Rattle.p2p_driver.proofs.links.first_to_ask.Given as goal
-
--- the first is the first of those that are left
-abbrev pub invariant-loop-peer : goal.invariant-loop-peer
-invariant-loop-peer g l = find (λ e. is_to_ask (as_nanos l.tick) (as_nanos l.now) e.1) l.of_peers.entries
-    ≡ find (λ e. is_to_ask (as_nanos l.tick) (as_nanos l.now) e.1) l.peer-iterator
