@@ -1,11 +1,14 @@
 //! Single measurements, each by a word.
 
+mod driven;
 mod drivers;
+mod frames;
 mod hour;
 mod nodes;
 mod runs;
 mod wire;
 
+use crate::scenarios::driven::{Who, driven_hours};
 use crate::scenarios::drivers::{Passing, passings};
 use crate::scenarios::hour::hours;
 use crate::scenarios::nodes::{Call, of_nodes};
@@ -14,7 +17,7 @@ use crate::scenarios::wire::{Way, bits, infos, ingresses, judgements, peers};
 use crate::stop::Stop;
 use crate::times::Times;
 
-const NAMES: [&str; 25] = [
+const NAMES: [&str; 27] = [
     "encode",
     "decode",
     "encode_names",
@@ -37,6 +40,8 @@ const NAMES: [&str; 25] = [
     "run_cycles",
     "whole_run",
     "day",
+    "driver",
+    "driver_by_hand",
     "driver_idle",
     "driver_asks",
     "asks_by_hand",
@@ -72,6 +77,8 @@ fn of_calls(rt: &HostRuntime, name: &str, count: usize, samples: usize) -> Resul
         "run_cycles" => runs(rt, count, samples, Kind::Cycles),
         "whole_run" => runs(rt, count, samples, Kind::Whole),
         "day" => hours(rt, count, samples),
+        "driver" => driven_hours(rt, count, samples, Who::Driver),
+        "driver_by_hand" => driven_hours(rt, count, samples, Who::Hand),
         "driver_idle" => passings(rt, count, samples, Passing::Idle),
         "driver_asks" => passings(rt, count, samples, Passing::Asks),
         "asks_by_hand" => passings(rt, count, samples, Passing::ByHand),

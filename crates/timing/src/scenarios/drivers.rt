@@ -2,15 +2,17 @@
 
 use crate::keys::{Key32, keys};
 use crate::made::{SETS, end, info_of, node, setup, tracked};
+use crate::scenarios::nodes::fill;
 use crate::stop::Stop;
 use crate::times::Times;
 use bytes::Bytes;
 use p2p_directory::node::Node;
 use p2p_discovery::codec::Write;
 use p2p_discovery::discovery::Payload;
-use p2p_driver::admission::Heard;
+use p2p_driver::actions::Action;
+use p2p_driver::admission::{Admission, Heard, Read};
 use p2p_driver::driver::Driver;
-use p2p_driver::link::Now;
+use p2p_driver::link::{Link, Now};
 use p2p_driver::pace::Pace;
 use std::alloc::{AllocError, Global};
 use std::time::{Duration, Instant};
@@ -26,28 +28,37 @@ pub(crate) enum Passing {
     ByHand,
 }
 
-// How many links a timed driver has at most.
-const LINKS: usize = 64;
+/// How many links a timed driver has at most.
+pub(crate) const LINKS: usize = 64;
 
 // How often it is told that time passes when nothing is due.
 const TIMES: usize = 1000;
 
-// The time of a call of a timed driver, in milliseconds. Its wall clock stays.
-fn at(millis: u64) -> Now {
+/// The time of a call of a timed driver, in milliseconds. Its wall clock stays.
+pub(crate) fn at(millis: u64) -> Now {
     Now {
         steady: Duration::from_millis(millis),
         wall: Duration::from_secs(1_000_000),
     }
 }
 
-// The settings of a timed driver: it keeps its links, and asks for all infos of no set.
-fn pace(alloc: Global) -> Pace {
+/// The settings of a timed driver, which asks for all infos of no set.
+pub(crate) fn pace(alloc: Global) -> Pace {
     let mut pace = Pace::recommended(alloc, 256, Duration::from_secs(10)).pace;
     pace.links = LINKS;
     pace.inbound = LINKS;
-    pace.silence = Duration::from_secs(1_000_000_000);
     pace.refresh = 0;
     pace
+}
+
+/// A timed driver of these settings.
+pub(crate) fn driver_of(alloc: Global, pace: Pace) -> Result<Driver<Key32>, AllocError> {
+    Driver::new(alloc, setup(alloc, 9, 1, LINKS + 1)?, pace)
+}
+
+/// Ends a timed driver.
+pub(crate) fn finish(driver: Driver<Key32>) {
+    driver.finish();
 }
 
 // The address of a stream of this number.
@@ -72,13 +83,34 @@ fn address(number: usize) -> [u8; 16] {
     ]
 }
 
-// Takes all actions that wait. Returns how many.
-fn take(driver: &mut Driver<Key32>) -> usize {
+/// Takes all actions that wait, and writes the frames that are sent. Returns how many actions there
+/// were, and how many bytes in these frames.
+pub(crate) fn take(driver: &mut Driver<Key32>) -> (usize, usize) {
     let count = driver.counts().actions;
+    let mut sent = 0usize;
     for _ in 0..count {
-        let _ = driver.next_action();
+        if let Some(Action::Send { link, frame }) = driver.next_action() {
+            sent = sent.saturating_add(frame.len());
+            let _ = driver.written(link, at(0));
+        }
     }
-    count
+    (count, sent)
+}
+
+/// Hands a frame in on a link of a timed driver, which has to read it now. Returns what becomes of
+/// it.
+pub(crate) fn hand_in(
+    driver: &mut Driver<Key32>,
+    link: Link,
+    frame: &Bytes,
+    now: Now,
+) -> Result<Admission, Stop> {
+    let bytes = frame.as_slice();
+    let head = bytes.get(..11).unwrap_or(bytes);
+    match driver.length(link, head, bytes.len(), now) {
+        Read::Now => Ok(driver.admit(link, frame, now)),
+        _ => Err(Stop::Words),
+    }
 }
 
 // Makes a link of a peer that greets. False if a timed driver doesn't let it in.
@@ -96,14 +128,12 @@ fn greet(
     if !driver.claimed(link, key, now) || !driver.proved(link, key, 0, now)? {
         return Ok(false);
     }
-    let head = frame.as_slice();
-    let _ = driver.length(link, head, head.len(), now);
-    let _ = driver.admit(link, &frame, now);
+    hand_in(driver, link, &frame, now)?;
     Ok(matches!(driver.judged(link, &[true], now), Ok(Heard::Greeted)))
 }
 
-// Gives a timed driver its sets and its links.
-fn begin(alloc: Global, driver: &mut Driver<Key32>, keys: &[Key32]) -> Result<(), Stop> {
+/// Gives a timed driver its sets and its links.
+pub(crate) fn begin(alloc: Global, driver: &mut Driver<Key32>, keys: &[Key32]) -> Result<(), Stop> {
     for index in 0..SETS {
         let _ = driver.track(index as u64, tracked(alloc, keys)?, at(0));
     }
@@ -146,7 +176,7 @@ fn time_each(
             _ => usize::from(driver.timeout(now).is_ok()),
         };
         let time = start.elapsed(rt)?;
-        let said = take(driver);
+        let (said, _sent) = take(driver);
         times.add(
             time,
             if let Passing::Idle = passing {
@@ -159,8 +189,8 @@ fn time_each(
     Ok(times)
 }
 
-// Has a node ask so many peers for the infos of a set, and keeps the questions.
-fn ask(
+/// Has a node ask so many peers for the infos of a set, and keeps the questions.
+pub(crate) fn ask(
     node: &Node<Key32>,
     place: usize,
     count: usize,
@@ -181,9 +211,7 @@ fn time_by_hand(
     keys: &[Key32],
     samples: usize,
 ) -> Result<Times, Stop> {
-    for index in 0..SETS {
-        let _ = node.track(index as u64, tracked(rt.alloc(), keys)?);
-    }
+    fill(rt.alloc(), node, keys)?;
     let count = keys.len().min(LINKS);
     let mut times = Times::new(rt.alloc());
     for sample in 0..samples {
@@ -208,16 +236,15 @@ fn driven(
     samples: usize,
     passing: Passing,
 ) -> Result<Times, Stop> {
-    let setup = setup(rt.alloc(), 9, 1, LINKS)?;
-    let mut driver = match Driver::new(rt.alloc(), setup, pace(rt.alloc())) {
-        Ok(driver) => driver,
-        Err(AllocError) => return Err(Stop::Memory),
-    };
+    // It keeps its links.
+    let mut pace = pace(rt.alloc());
+    pace.silence = Duration::from_secs(1_000_000_000);
+    let mut driver = driver_of(rt.alloc(), pace)?;
     let times = match begin(rt.alloc(), &mut driver, keys) {
         Ok(()) => time_each(rt, &mut driver, samples, passing),
         Err(stop) => Err(stop),
     };
-    driver.finish();
+    finish(driver);
     times
 }
 

@@ -1,54 +1,21 @@
 //! An hour of a tracker within Rattle.
 
 use crate::keys::{Key32, keys};
-use crate::made::{end, info_of, node, tracked};
+use crate::made::{end, node, tracked};
+use crate::scenarios::frames::{
+    Frames, INFOS, Random, TICKS, TICKS_A_MINUTE, frames_of, timestamps,
+};
 use crate::stop::Stop;
 use crate::times::Times;
-use bytes::Bytes;
 use p2p_directory::directory::TrackedPeers;
 use p2p_directory::node::{Node, Received};
 use p2p_directory::run::Reply;
-use p2p_discovery::codec::Write;
-use p2p_discovery::discovery::{BitVec, Infos, Payload};
-use p2p_discovery::sets::{BitMap, OrderedSet};
+use p2p_discovery::sets::OrderedSet;
 use std::alloc::Global;
 use std::time::{Duration, Instant};
 
-// How many connections there are at most, and how many infos a peer sends at a time.
+// How many connections there are at most.
 const CONNECTIONS: usize = 64;
-
-const INFOS: usize = 32;
-
-// How many ticks of ten seconds an hour has, and how many a minute.
-const TICKS: usize = 360;
-
-const TICKS_A_MINUTE: usize = 6;
-
-// SplitMix64: numbers that depend on the first alone.
-#[derive(Drop)]
-struct Random(u64);
-
-impl Random {
-    fn next(&mut self) -> u64 {
-        self.0 = self.0.wrapping_add(0x9e37_79b9_7f4a_7c15);
-        let z = (self.0 ^ (self.0 >> 30)).wrapping_mul(0xbf58_476d_1ce4_e5b9);
-        let z = (z ^ (z >> 27)).wrapping_mul(0x94d0_49bb_1331_11eb);
-        z ^ (z >> 31)
-    }
-
-    fn below(&mut self, end: usize) -> usize {
-        let end = (end as u64).max(1);
-        (self.next() % end) as usize
-    }
-
-    fn one_of(&mut self, keys: &[Key32]) -> Option<Key32> {
-        keys.get(self.below(keys.len())).copied()
-    }
-
-    fn draw(&mut self) -> Duration {
-        Duration::from_nanos(self.below(5_000_000_000) as u64)
-    }
-}
 
 // A tracker, and how much it did.
 struct Tracker {
@@ -67,14 +34,6 @@ struct Tick {
     inbound: Vec<(Key32, Duration)>,
     asked: Vec<Key32>,
     bad: Option<Key32>,
-}
-
-// The frames of a connection in a tick: infos and a question, and the position of the set that it is asked about.
-#[derive(Drop)]
-struct Frames {
-    infos: Bytes,
-    question: Bytes,
-    place: usize,
 }
 
 impl Tracker {
@@ -284,80 +243,11 @@ fn tick_of(
     })
 }
 
-// A frame of the timed hour with infos of those in the set, whose timestamps begin at a position:
-// one in ten is newer than before.
-fn infos_of(
-    alloc: Global,
-    here: &[Key32],
-    seen: &mut [u64],
-    from: usize,
-    random: &mut Random,
-) -> Result<Bytes, Stop> {
-    let mut infos = Vec::with_capacity(alloc, INFOS)?;
-    for _ in 0..INFOS {
-        let place = random.below(here.len());
-        let newer = u64::from(random.below(10) == 0);
-        if let (Some(peer), Some(timestamp)) = (
-            here.get(place),
-            seen.get_mut(from.saturating_add(place)),
-        ) {
-            *timestamp = timestamp.saturating_add(newer);
-            infos.push(info_of(*peer, *timestamp))?;
-        }
-    }
-    if infos.len() >= 4_294_967_296 {
-        return Err(Stop::Words);
-    }
-    Ok(Payload::Peers(Infos::from_vec(infos)).encode(alloc)?)
-}
-
-fn question_of(
-    alloc: Global,
-    index: u64,
-    count: usize,
-    random: &mut Random,
-) -> Result<Bytes, Stop> {
-    let mut bools = Vec::with_capacity(alloc, count)?;
-    for _ in 0..count {
-        bools.push(random.below(2) == 0)?;
-    }
-    let bits = BitMap::from_bools(alloc, &bools)?;
-    let question: Payload<Key32> = Payload::BitVec(BitVec { index, bits });
-    Ok(question.encode(alloc)?)
-}
-
-// The frames that each connection receives during the timed hour.
-fn frames_of(
-    alloc: Global,
-    minute: usize,
-    connected: usize,
-    here: &[Key32],
-    seen: &mut [u64],
-    from: usize,
-    random: &mut Random,
-) -> Result<Vec<Frames>, Stop> {
-    let mut frames = Vec::with_capacity(alloc, connected)?;
-    for _ in 0..connected {
-        let infos = infos_of(alloc, here, seen, from, random)?;
-        let question = question_of(alloc, minute as u64, here.len(), random)?;
-        let place = random.below(4).min(minute);
-        frames.push(Frames {
-            infos,
-            question,
-            place,
-        })?;
-    }
-    Ok(frames)
-}
-
 // The time of all ticks of the timed hour.
 fn time_ticks(rt: &HostRuntime, tracker: &mut Tracker, count: usize) -> Result<Duration, Stop> {
     let mut random = Random(count as u64);
     let all = keys(rt.alloc(), count.saturating_mul(2))?;
-    let mut seen = Vec::with_capacity(rt.alloc(), all.len())?;
-    for _ in 0..all.len() {
-        seen.push(1000u64)?;
-    }
+    let mut seen = timestamps(rt.alloc(), all.len())?;
     let mut time = Duration::ZERO;
     for number in 0..TICKS {
         let minute = number / TICKS_A_MINUTE;

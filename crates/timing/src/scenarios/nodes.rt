@@ -151,16 +151,20 @@ fn make(nodes: &mut Nodes, keys: &[Key32], ready: Ready) -> usize {
     }
 }
 
-// Fills a timed node with sets of all these peers, as many as are retained.
-fn fill(alloc: Global, node: &mut Node<Key32>, keys: &[Key32]) -> Result<(), AllocError> {
+/// Fills a timed node with sets of all these peers, as many as are retained.
+pub(crate) fn fill(
+    alloc: Global,
+    node: &mut Node<Key32>,
+    keys: &[Key32],
+) -> Result<(), AllocError> {
     for index in 0..SETS {
         let _ = node.track(index as u64, tracked(alloc, keys)?);
     }
     Ok(())
 }
 
-// Connects a timed node with each of these peers.
-fn connect(node: &mut Node<Key32>, keys: &[Key32]) {
+/// Connects a timed node with each of these peers.
+pub(crate) fn connect(node: &mut Node<Key32>, keys: &[Key32]) {
     for key in keys {
         let _ = node.listen(key, Duration::from_secs(100), Duration::ZERO);
         let _ = node.connect(key, false);
