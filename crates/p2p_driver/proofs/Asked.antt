@@ -14,6 +14,7 @@ use Rattle.p2p_discovery.specs.declared.discovery.Payload.TheVariants as payload
 use Rattle.p2p_discovery.specs.Judgement.{Judge, to_verify, judged_before}
 use Rattle.p2p_discovery.specs.declared.discovery.PayloadConfig.{PayloadConfig}
 use Rattle.p2p_discovery.specs.Ordered.{has_key}
+use Rattle.p2p_discovery.specs.declared.types.ingress.Ingress.{Ingress}
 use Rattle.p2p_tracker.specs.Calls.{Settings, Call}
 use Rattle.p2p_tracker.specs.History.{same, last_with, found_with}
 use Rattle.p2p_driver.specs.declared.links.Held.{Held}
@@ -23,12 +24,12 @@ use Rattle.p2p_driver.specs.declared.links.Waiting.{Waiting}
 use Rattle.p2p_driver.specs.Frames.{Cause, Outcome, IsOutcome, Spells, begins_with, is_empty_list, owed_after}
 use Rattle.p2p_driver.specs.Happenings.{Happening, calls_of, opened_by, ends_by, link_since, heard_as, said_with}
 use Rattle.p2p_driver.specs.Laws.{since_of, since_began, is_asked, is_for_set, is_list, asks_by, lists_by, asked_on, lists_on}
-use Rattle.p2p_driver.specs.Links.{link_with, asking, saying, writing, closed}
+use Rattle.p2p_driver.specs.Links.{link_with, dial_with, asking, saying, writing, closed}
 use Rattle.p2p_driver.specs.Questions.{asked_after, owed_with}
 use Rattle.p2p_driver.specs.declared.questions.Question.{Question}
 use Rattle.p2p_driver.specs.Drivers.{Base, AreRight, IsHeard, IsAsked, link, standing}
 use Rattle.p2p_driver.proofs.Beginnings.{Begins, not_both, the_empty}
-use Rattle.p2p_driver.proofs.LinkHistory.{touch_by, untouched, closing_if, link_after, link_stays, link_later, link_opens, link_hears, link_asks, link_writes, link_speaks, ended_link, closed_link}
+use Rattle.p2p_driver.proofs.LinkHistory.{touch_by, untouched, closing_if, reaching_if, link_after, link_stays, link_later, link_opens, link_dials, link_hears, link_asks, link_writes, link_speaks, ended_link, closed_link}
 use Rattle.p2p_driver.proofs.Standing.{one_more}
 
 -- so many lists were admitted and so many questions asked, on a link that there may be
@@ -58,6 +59,12 @@ speaks : (x : Bool) (t : Duration) (l a : ℕ) (o : Option Held) → Few l a o �
 speaks true t l a None is = is
 speaks true t l a (Some held) is = is
 speaks false t l a o is = is
+
+reaches : (x : Bool) (t : Duration) (l a : ℕ) (o : Option Held) → Few l a o → Few l a (link_after false (reaching_if x t) o)
+reaches true t l a None is = is
+reaches true t l a (Some held) is = is
+reaches false t l a None is = is
+reaches false t l a (Some held) is = is
 
 ended : (x : Bool) (l a : ℕ) (o : Option Held) → Few l a o → Few l a (if x then None else o)
 ended true l a o is = few l a o is
@@ -141,7 +148,7 @@ module _ {C S : Type 0} (b : Base C S) (reading : Begins b.wire) where
       cond (is_list x) 1 0 + (heard_as t (owed_after held.phase x most held.owed) x held).owed ≤ cond (is_asked x) 1 0 + held.owed
   owed_then (Outcome.Waits w) t most held some =
       let paid = pays (begins_with 3 w.frame) held.owed (some w refl) in omega (arith, paid)
-  owed_then (Outcome.Greets info question) t most held some =
+  owed_then (Outcome.Greets dialer info question) t most held some =
       let up_to = owed_up_to question most held.owed in omega (arith, up_to)
   owed_then (Outcome.Takes infos) t most held some = omega arith
   owed_then (Outcome.Answers reply) t most held some = omega arith
@@ -155,7 +162,7 @@ module _ {C S : Type 0} (b : Base C S) (reading : Begins b.wire) where
 
   -- HOW MANY since the link of p began
 
-  abbrev began : C → List (Happening C S) → Option ((ℕ × Duration) × List (Happening C S))
+  abbrev began : C → List (Happening C S) → Option ((ℕ × Bool × Duration) × List (Happening C S))
   began p h = last_with (opened_by d p) h
 
   -- .. with one more that doesn't count
@@ -163,7 +170,7 @@ module _ {C S : Type 0} (b : Base C S) (reading : Begins b.wire) where
       count_by f (since_began d p (e ∷ h)) ≡ count_by f (since_began d p h)
   as_many f p e h opened isnt = ap (λ o. count_by f (since_of (found_with o e (began p h)))) opened ∙ go (began p h)
     where
-      go : (found : Option ((ℕ × Duration) × List (Happening C S))) →
+      go : (found : Option ((ℕ × Bool × Duration) × List (Happening C S))) →
           count_by f (since_of (found_with None e found)) ≡ count_by f (since_of found)
       go None = refl
       go (Some found) = uncounted (count_by f (e ∷ found.1)) (count_by f found.1) (one_more f e found.1 false isnt)
@@ -173,7 +180,7 @@ module _ {C S : Type 0} (b : Base C S) (reading : Begins b.wire) where
       is_some (link b p h) ≡ true → count_by f (since_began d p (e ∷ h)) ≡ cond x 1 0 + count_by f (since_began d p h)
   more f p e h x opened is linked = ap (λ o. count_by f (since_of (found_with o e (began p h)))) opened ∙ go (began p h) linked
     where
-      go : (found : Option ((ℕ × Duration) × List (Happening C S))) → is_some (link_since d p found) ≡ true →
+      go : (found : Option ((ℕ × Bool × Duration) × List (Happening C S))) → is_some (link_since d p found) ≡ true →
           count_by f (since_of (found_with None e found)) ≡ cond x 1 0 + count_by f (since_of found)
       go None linked = absurd cc
       go (Some found) linked = one_more f e found.1 x is
@@ -204,16 +211,36 @@ module _ {C S : Type 0} (b : Base C S) (reading : Begins b.wire) where
       e : Happening C S
       e = Happening.Proved n q t draw
 
-      other : (f : Happening C S → Bool) → f e ≡ false → (found : Option ((ℕ × Duration) × List (Happening C S))) →
+      other : (f : Happening C S → Bool) → f e ≡ false → (found : Option ((ℕ × Bool × Duration) × List (Happening C S))) →
           count_by f (since_of (found_with None e found)) ≡ count_by f (since_of found)
       other f isnt None = refl
       other f isnt (Some found) = uncounted (count_by f (e ∷ found.1)) (count_by f found.1) (one_more f e found.1 false isnt)
 
-      go : (x : Bool) (found : Option ((ℕ × Duration) × List (Happening C S))) →
+      go : (x : Bool) (found : Option ((ℕ × Bool × Duration) × List (Happening C S))) →
           Few (count_by (lists_by d p) (since_of found)) (count_by (asks_by d p) (since_of found)) (link b p h) →
-          Few (count_by (lists_by d p) (since_of (found_with (if x then Some (n, t) else None) e found)))
-          (count_by (asks_by d p) (since_of (found_with (if x then Some (n, t) else None) e found)))
+          Few (count_by (lists_by d p) (since_of (found_with (if x then Some (n, false, t) else None) e found)))
+          (count_by (asks_by d p) (since_of (found_with (if x then Some (n, false, t) else None) e found)))
           (if x then Some (link_with n t) else link b p h)
+      go true found few = omega arith
+      go false found few = few_at _ _ _ _ _ _ (other (lists_by d p) refl found) (other (asks_by d p) refl found) refl few
+
+  dialed : (n : ℕ) (q : C) (t draw : Duration) (word : ℕ) (ingress : Ingress) (h : List (Happening C S)) (p : C) → Asked p h →
+      Asked p (Happening.Dialed n q t draw word ingress ∷ h)
+  dialed n q t draw word ingress h p few = few_at _ _ _ _ _ _ refl refl (link_dials d p q n t draw word ingress h) (go (same d q p) (began p h) few)
+    where
+      e : Happening C S
+      e = Happening.Dialed n q t draw word ingress
+
+      other : (f : Happening C S → Bool) → f e ≡ false → (found : Option ((ℕ × Bool × Duration) × List (Happening C S))) →
+          count_by f (since_of (found_with None e found)) ≡ count_by f (since_of found)
+      other f isnt None = refl
+      other f isnt (Some found) = uncounted (count_by f (e ∷ found.1)) (count_by f found.1) (one_more f e found.1 false isnt)
+
+      go : (x : Bool) (found : Option ((ℕ × Bool × Duration) × List (Happening C S))) →
+          Few (count_by (lists_by d p) (since_of found)) (count_by (asks_by d p) (since_of found)) (link b p h) →
+          Few (count_by (lists_by d p) (since_of (found_with (if x then Some (n, true, t) else None) e found)))
+          (count_by (asks_by d p) (since_of (found_with (if x then Some (n, true, t) else None) e found)))
+          (if x then Some (dial_with n t) else link b p h)
       go true found few = omega arith
       go false found few = few_at _ _ _ _ _ _ (other (lists_by d p) refl found) (other (asks_by d p) refl found) refl few
 
@@ -298,9 +325,19 @@ module _ {C S : Type 0} (b : Base C S) (reading : Begins b.wire) where
         stays (Happening.Unproved n q t why) h p refl refl refl refl refl (all_asked h right.2 p)
     all_asked (Happening.Left n t ∷ h) right p =
         stays (Happening.Left n t) h p refl refl refl refl refl (all_asked h right.2 p)
-    all_asked (Happening.Ended n q t ∷ h) right p =
-        keeps (Happening.Ended n q t) h p (if same d q p then None else link b p h) refl refl refl
-        (link_later d p (Happening.Ended n q t) h refl ∙ ended_link (same d q p) (link b p h))
+    all_asked (Happening.Dialed n q t draw word ingress ∷ h) right p =
+        dialed n q t draw word ingress h p (all_asked h right.2 p)
+    all_asked (Happening.Undialed t ∷ h) right p =
+        stays (Happening.Undialed t) h p refl refl refl refl refl (all_asked h right.2 p)
+    all_asked (Happening.Reached n q t ∷ h) right p =
+        keeps (Happening.Reached n q t) h p (link_after false (reaching_if (same d q p) t) (link b p h)) refl refl refl
+        (link_later d p (Happening.Reached n q t) h refl)
+        (reaches (same d q p) t (lists_on d p h) (asked_on d p h) (link b p h) (all_asked h right.2 p))
+    all_asked (Happening.Mistaken n q t ∷ h) right p =
+        closed_by (Happening.Mistaken n q t) h p (same d q p) refl refl refl refl refl (all_asked h right.2 p)
+    all_asked (Happening.Ended n q t direction ∷ h) right p =
+        keeps (Happening.Ended n q t direction) h p (if same d q p then None else link b p h) refl refl refl
+        (link_later d p (Happening.Ended n q t direction) h refl ∙ ended_link (same d q p) (link b p h))
         (ended (same d q p) (lists_on d p h) (asked_on d p h) (link b p h) (all_asked h right.2 p))
     all_asked (Happening.SetCame t index primary secondary torn ∷ h) right p =
         closed_by (Happening.SetCame t index primary secondary torn) h p (has_key d.cmp torn p) refl refl refl refl refl (all_asked h right.2 p)

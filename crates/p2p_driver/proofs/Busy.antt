@@ -12,19 +12,20 @@ use Rattle.p2p_directory.specs.declared.node.setup.Setup.{Setup}
 use Rattle.p2p_driver.specs.declared.pace.Pace.{Pace}
 use Rattle.p2p_driver.specs.Steps.{IsBusy}
 use Rattle.p2p_tracker.specs.Calls.{Settings, Call}
-use Rattle.p2p_tracker.specs.Calls.Call.{Track, Listen, Connect, Release, Update, Block, UnblockExpired, ForgetCooled}
+use Rattle.p2p_tracker.specs.Calls.Call.{Track, Dial, Listen, Connect, Release, Update, Block, UnblockExpired, ForgetCooled}
 use Rattle.p2p_tracker.specs.History.{same}
 use Rattle.p2p_tracker.specs.Answers.{was_granted, may_listen_at, may_release}
 use Rattle.p2p_tracker.specs.World.{listen_event}
 use Rattle.p2p_directory.specs.Run.{world_after, event_of}
 use Rattle.p2p_directory.specs.Laws.Steps.{is_busy_in, is_busy_after}
 use Rattle.p2p_directory.proofs.LawsOfRuns.OneCall
+use Rattle.p2p_driver.specs.declared.links.Direction.{Direction}
 use Rattle.p2p_driver.specs.declared.links.Held.{Held}
 use Rattle.p2p_driver.specs.Frames.{Outcome}
 use Rattle.p2p_driver.specs.Happenings.{Happening, calls_of, calls_for, link_at, opened_by, ends_by}
 use Rattle.p2p_driver.specs.Links.{link_of}
 use Rattle.p2p_driver.specs.Drivers.{DriverView, Base, DriverStandsAt, DriverStands, base_of, AreRight, link, may_come, has_place, IsLinkOf}
-use Rattle.p2p_driver.proofs.LinkHistory.{Touch, touch_by, link_after, link_later, link_opens, ended_link}
+use Rattle.p2p_driver.proofs.LinkHistory.{Touch, touch_by, link_after, link_later, link_opens, link_dials, ended_link}
 
 still_linked : (touch : Touch) (o : Option Held) → is_some (link_after false touch o) ≡ is_some o
 still_linked touch None = refl
@@ -79,8 +80,8 @@ module _ {C S : Type 0} (b : Base C S) where
     called_for : (cs : List (Call C S)) (q : C) (t : Duration) (outcome : Outcome C S) (p : C) →
         busy (calls_for q t outcome ++ cs) p ≡ busy cs p
     called_for cs q t (Outcome.Waits waiting) p = refl
-    called_for cs q t (Outcome.Greets info question) p =
-        called (Update (info ∷ []) ∷ cs) (Connect q false) p ∙ called cs (Update (info ∷ [])) p
+    called_for cs q t (Outcome.Greets dialer info question) p =
+        called (Update (info ∷ []) ∷ cs) (Connect q dialer) p ∙ called cs (Update (info ∷ [])) p
     called_for cs q t (Outcome.Takes infos) p = called cs (Update infos) p
     called_for cs q t (Outcome.Answers reply) p = refl
     called_for cs q t (Outcome.Delivers message) p = refl
@@ -111,8 +112,19 @@ module _ {C S : Type 0} (b : Base C S) where
         kept (Happening.Unproved n q t why) h p refl refl ∙ linked_is_busy h right.2 p
     linked_is_busy (Happening.Left n t ∷ h) right p =
         kept (Happening.Left n t) h p refl refl ∙ linked_is_busy h right.2 p
-    linked_is_busy (Happening.Ended n q t ∷ h) right p =
-        ap is_some (link_later d p (Happening.Ended n q t) h refl ∙ ended_link (same d q p) (link_at d p h))
+    linked_is_busy (Happening.Dialed n q t draw word ingress ∷ h) right p =
+        ap is_some (link_dials d p q n t draw word ingress h) ∙ some_if (same d q p) _ (link_at d p h)
+        ∙ ap (λ x. same d q p || x) (linked_is_busy h right.2 p)
+        ∙ sym (called (calls_of h) (Dial q (as_nanos t) (as_nanos draw)) p
+        ∙ ap (λ x. (x && same d q p) || busy (calls_of h) p) right.0.granted)
+    linked_is_busy (Happening.Undialed t ∷ h) right p =
+        kept (Happening.Undialed t) h p refl refl ∙ linked_is_busy h right.2 p
+    linked_is_busy (Happening.Reached n q t ∷ h) right p =
+        kept (Happening.Reached n q t) h p refl refl ∙ linked_is_busy h right.2 p
+    linked_is_busy (Happening.Mistaken n q t ∷ h) right p =
+        kept (Happening.Mistaken n q t) h p refl refl ∙ linked_is_busy h right.2 p
+    linked_is_busy (Happening.Ended n q t direction ∷ h) right p =
+        ap is_some (link_later d p (Happening.Ended n q t direction) h refl ∙ ended_link (same d q p) (link_at d p h))
         ∙ none_if (same d q p) (link_at d p h)
         ∙ ap (λ x. not (same d q p) && x) (linked_is_busy h right.2 p)
         ∙ sym (called (calls_of h) (Release q) p)
@@ -156,9 +168,10 @@ module _ {C S : Type 0} (b : Base C S) where
     may_release_linked h v at p has = sym (linked_is_busy h at.right p) ∙ sym (ap is_some (at.links p)) ∙ has
 
     -- .. such as one of which a link ended
-    pub may_release_ended : (h : List (Happening C S)) → AreRight b h → (n : ℕ) (p : C) → IsLinkOf b h n p →
+    pub may_release_ended : (h : List (Happening C S)) → AreRight b h → (n : ℕ) (p : C) (direction : Direction) →
+        IsLinkOf b h n p direction →
         may_release d (world_after d (calls_of h)) p ≡ true
-    may_release_ended h right n p of_p = sym (linked_is_busy h right p) ∙ is_linked _ (link b p h) of_p
+    may_release_ended h right n p direction of_p = sym (linked_is_busy h right p) ∙ is_linked _ (link b p h) of_p
 
 -- WHEREVER ITS NODE STANDS
 

@@ -1,12 +1,14 @@
 -- What the replies of a node say.
-use Rattle.std.proofs.Common.{◌≡◌, ℕ, Bool, true, false, List, [], ◌∷◌, Option, inl, inr, refl, ◌∙◌, ap, subst}
+use Rattle.std.proofs.Common.{◌≡◌, ℕ, Bool, true, false, List, [], ◌∷◌, Option, Some, None, inl, inr, refl, sym, ◌∙◌, ap, subst}
 use Rattle.std.specs.Prelude.{if◌then◌else◌}
 use Rattle.std.specs.Duration.{as_nanos}
 use Rattle.std.specs.declared.time.Duration.{Duration}
 use Rattle.std.specs.declared.cmp.Ordering.{Ordering}
 use Rattle.p2p_tracker.specs.Calls.{Call, Event}
-use Rattle.p2p_tracker.specs.Calls.Call.{Track, Listen, Release, UnblockExpired, ForgetCooled}
-use Rattle.p2p_tracker.specs.Answers.{was_granted, was_taken, IsTrackAnswer, may_listen_at, may_release}
+use Rattle.p2p_discovery.specs.declared.types.ingress.Ingress.{Ingress}
+use Rattle.p2p_tracker.specs.Calls.Call.{Track, Dial, Listen, Release, UnblockExpired, ForgetCooled, Ask}
+use Rattle.p2p_tracker.specs.Calls.Question.{IngressOf}
+use Rattle.p2p_tracker.specs.Answers.{was_granted, was_taken, IsTrackAnswer, may_listen_at, may_release, held_ingress}
 use Rattle.p2p_tracker.specs.World.{World, listen_event}
 use Rattle.p2p_tracker.specs.declared.directory.TrackedPeers.{TrackedPeers}
 use Rattle.p2p_directory.specs.declared.run.commands.Command.TheVariants as command
@@ -14,7 +16,7 @@ use Rattle.p2p_directory.specs.declared.run.commands.Reply.{Reply}
 use Rattle.p2p_directory.specs.declared.run.commands.Reply.TheVariants as reply
 use Rattle.p2p_directory.specs.Nodes.{NodeView, Made, NodeStandsAt, IsStepped, IsStepAnswer, StandsSomewhere, made_of}
 use Rattle.p2p_directory.specs.Run.{next, world_after, event_of, was_made, Replies}
-use Rattle.p2p_driver.specs.Steps.{Makes, MayListen, IsBusy, IsTaken, TearsDown}
+use Rattle.p2p_driver.specs.Steps.{Makes, MayListen, IsBusy, IsTaken, TearsDown, IsGranted, IsAddress}
 
 module _ {C S : Type 0} (cmp : C → C → Ordering) where
   -- a listen of a peer that may come is granted, or wants memory
@@ -28,6 +30,14 @@ module _ {C S : Type 0} (cmp : C → C → Ordering) where
           was_granted (event_of m.directory cs (Listen p t draw)) ≡ true
       granted may = ap (λ b. was_granted (listen_event m.directory p t draw b)) may
   granted_or_none m cs p t draw r may (inr (takes, out)) isnt = ap was_made out
+
+  -- a dial that is granted is, or wants memory
+  dialed_or_none : (m : Made C S) (cs : List (Call C S)) (p : C) (t draw : ℕ) (r : Reply C S) →
+      was_granted (event_of m.directory cs (Dial p t draw)) ≡ true →
+      IsStepAnswer m cs (Dial p t draw) r → ¬ (r ≡ reply.Dial true) → was_made r ≡ false
+  dialed_or_none m cs p t draw r granted (inl (inl (out, want))) isnt = ap was_made out
+  dialed_or_none m cs p t draw r granted (inl (inr is)) isnt = absurd (isnt (is ∙ ap reply.Dial granted))
+  dialed_or_none m cs p t draw r granted (inr (takes, out)) isnt = ap was_made out
 
   -- a release of a peer that is busy is done
   released : (m : Made C S) (cs : List (Call C S)) (p : C) (r : Reply C S) →
@@ -48,6 +58,32 @@ module _ {C S : Type 0} (cmp : C → C → Ordering) where
     pub unheard : StandsSomewhere cmp v → MayListen cmp p (as_nanos now) v → ¬ (r ≡ reply.Listen true) → was_made r ≡ false
     unheard at may isnt = granted_or_none (made_of cmp at.given) at.calls p (as_nanos now) (as_nanos draw) r
         (may at.given at.calls at.stands) (stepped at.given at.calls at.stands).answer isnt
+
+  module _ (v v2 : NodeView C S) (p : C) (now draw : Duration) (r : Reply C S)
+      (stepped : IsStepped cmp (command.Dial p now draw) r v v2) where
+    -- a dial that was granted
+    pub dials : r ≡ reply.Dial true → Makes cmp (Dial p (as_nanos now) (as_nanos draw) ∷ []) v v2
+    dials is given cs at = subst (λ r. NodeStandsAt (made_of cmp given)
+        (next (made_of cmp given).directory cs (Dial p (as_nanos now) (as_nanos draw)) r) v2) is (stepped given cs at).left
+
+    -- .. that is granted, and wasn't made
+    pub undialed : StandsSomewhere cmp v → IsGranted cmp p (as_nanos now) (as_nanos draw) v → ¬ (r ≡ reply.Dial true) → was_made r ≡ false
+    undialed at granted isnt = dialed_or_none (made_of cmp at.given) at.calls p (as_nanos now) (as_nanos draw) r
+        (granted at.given at.calls at.stands) (stepped at.given at.calls at.stands).answer isnt
+
+  -- an address that is told is held
+  told_address : (m : Made C S) (cs : List (Call C S)) (p : C) (a : Ingress) →
+      IsStepAnswer m cs (Ask (IngressOf p)) (reply.Ingress (Some a)) → held_ingress m.directory (world_after m.directory cs) p ≡ Some a
+  told_address m cs p a (inl (inl (out, may))) = absurd cc
+  told_address m cs p a (inl (inr is)) = sym (ap told is)
+    where
+      told : Reply C S → Option Ingress
+      told (reply.Ingress o) = o
+      told r = None
+  told_address m cs p a (inr (takes, out)) = absurd cc
+
+  pub addressed : (v v2 : NodeView C S) (p : C) (a : Ingress) → IsStepped cmp (command.Ingress p) (reply.Ingress (Some a)) v v2 → IsAddress cmp p a v
+  addressed v v2 p a stepped given cs at = told_address (made_of cmp given) cs p a (stepped given cs at).answer
 
   pub releases : (v v2 : NodeView C S) (p : C) (r : Reply C S) → IsBusy cmp p v →
       IsStepped cmp (command.Release p) r v v2 → Makes cmp (Release p ∷ []) v v2

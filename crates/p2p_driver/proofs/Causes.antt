@@ -19,7 +19,7 @@ use Rattle.p2p_discovery.specs.declared.discovery.Payload.TheVariants as payload
 use Rattle.p2p_discovery.specs.declared.discovery.PayloadConfig.{PayloadConfig}
 use Rattle.p2p_discovery.specs.Judgement.{Judge, to_verify, judged_before, list_refusal_by}
 use Rattle.p2p_tracker.specs.Calls.{Call}
-use Rattle.p2p_tracker.specs.Calls.Call.{Track, Listen, Connect, Release, Update, Block, UnblockExpired, ForgetCooled}
+use Rattle.p2p_tracker.specs.Calls.Call.{Track, Dial, Listen, Connect, Release, Update, Block, UnblockExpired, ForgetCooled}
 use Rattle.p2p_directory.specs.Received.{Wire, Standing}
 use Rattle.p2p_driver.specs.declared.actions.Breach.TheVariants as breach
 use Rattle.p2p_driver.specs.declared.links.Held.{Held}
@@ -27,9 +27,10 @@ use Rattle.p2p_driver.specs.declared.links.Phase.{Phase}
 use Rattle.p2p_driver.specs.declared.links.Phase.TheVariants as phase
 use Rattle.p2p_driver.specs.declared.links.Waiting.{Waiting}
 use Rattle.p2p_driver.specs.Drivers.{Base, IsRight, IsHeard, link, standing}
-use Rattle.p2p_driver.specs.Frames.{Cause, Outcome, Shares, IsRefused, IsOutcome, ComesFirst, ComesNext, ComesOf, ComesOfVerdicts, Spells, read, refusal_of, begins_with, is_early, is_greeting_frame, is_unasked}
+use Rattle.p2p_driver.specs.Frames.{Cause, Outcome, Shares, IsRefused, IsAsDialer, IsOutcome, ComesFirst, ComesNext, ComesOf, ComesOfVerdicts, Spells, read, refusal_of, begins_with, is_early, is_greeting_frame, is_unasked}
 use Rattle.p2p_driver.specs.Happenings.{Happening, calls_of, calls_by}
 use Rattle.p2p_driver.specs.Laws.{bare, is_head, Blames}
+use Rattle.p2p_driver.specs.Links.{is_dialer}
 use Rattle.p2p_driver.proofs.Beginnings.{Begins}
 
 -- so many infos and signatures wait in a frame that came then
@@ -80,7 +81,7 @@ module _ {C S : Type 0} where
   refusal_does Outcome.IsEarly y (Some e) is =
       ap (λ b. if b then Outcome.IsEarly else Outcome.Breaks (breach.Invalid e) None) (sym is)
   refusal_does (Outcome.Waits w) y r is = absurd is
-  refusal_does (Outcome.Greets info question) y r is = absurd is
+  refusal_does (Outcome.Greets dialer info question) y r is = absurd is
   refusal_does (Outcome.Takes infos) y r is = absurd is
   refusal_does (Outcome.Answers reply) y r is = absurd is
   refusal_does (Outcome.Delivers message) y r is = absurd is
@@ -127,7 +128,7 @@ module _ {C S : Type 0} where
         ap Outcome.Waits (waiting_is w frame wall 1 1 comes.0.0 comes.0.1 may.3 may.4)
         ∙ ap (λ b. if b then Outcome.Waits (waiting_at frame wall 1 1) else Outcome.Breaks breach.OtherGreeting None) (sym may.2)
         ∙ greeting_by p frame wall (Ok (payload.Greeting may.0, [])) (reading.prefixed limits frame (payload.Greeting may.0) spells) spells
-    first_is p frame wall (Outcome.Greets info question) comes = absurd comes
+    first_is p frame wall (Outcome.Greets dialer info question) comes = absurd comes
     first_is p frame wall (Outcome.Takes infos) comes = absurd comes
     first_is p frame wall (Outcome.Answers reply) comes = absurd comes
     first_is p frame wall (Outcome.Delivers message) comes = absurd comes
@@ -206,7 +207,7 @@ module _ {C S : Type 0} where
       of_is (Outcome.Breaks breach.NoGreeting blocked) comes = absurd comes.3
       of_is (Outcome.Breaks breach.OtherGreeting blocked) comes = absurd comes.3
       of_is (Outcome.Breaks breach.SecondGreeting blocked) comes = absurd comes.3
-      of_is (Outcome.Greets info question) comes = absurd comes.3
+      of_is (Outcome.Greets dialer info question) comes = absurd comes.3
       of_is Outcome.Ignores comes = absurd comes.3
       of_is (Outcome.Breaks breach.FrameLength blocked) comes = absurd comes.3
       of_is Outcome.LacksChannel comes = absurd comes.3
@@ -238,7 +239,7 @@ module _ {C S : Type 0} where
       next_is owed (Outcome.Breaks breach.Malformed blocked) comes = neither owed (Outcome.Breaks breach.Malformed blocked) comes.0 comes.1 comes.2
       next_is owed (Outcome.Breaks (breach.Invalid e) blocked) comes = neither owed (Outcome.Breaks (breach.Invalid e) blocked) comes.0 comes.1 comes.2
       next_is owed (Outcome.Waits w) comes = neither owed (Outcome.Waits w) comes.0 comes.1 comes.2
-      next_is owed (Outcome.Greets info question) comes = neither owed (Outcome.Greets info question) comes.0 comes.1 comes.2
+      next_is owed (Outcome.Greets dialer info question) comes = neither owed (Outcome.Greets dialer info question) comes.0 comes.1 comes.2
       next_is owed (Outcome.Takes infos) comes = neither owed (Outcome.Takes infos) comes.0 comes.1 comes.2
       next_is owed (Outcome.Answers reply) comes = neither owed (Outcome.Answers reply) comes.0 comes.1 comes.2
       next_is owed (Outcome.Delivers message) comes = neither owed (Outcome.Delivers message) comes.0 comes.1 comes.2
@@ -249,9 +250,9 @@ module _ {C S : Type 0} where
       next_is owed (Outcome.Reads kind looked) comes = neither owed (Outcome.Reads kind looked) comes.0 comes.1 comes.2
 
     -- .. of verdicts
-    module _ (w : Waiting) (verdicts : List Bool) where
+    module _ (dialer : Bool) (w : Waiting) (verdicts : List Bool) where
       abbrev passes : Payload C S → Outcome C S
-      passes (payload.Greeting info) = Outcome.Greets info None
+      passes (payload.Greeting info) = Outcome.Greets dialer info None
       passes (payload.Peers infos) = Outcome.Takes infos
       passes p = Outcome.IsEarly
 
@@ -266,44 +267,46 @@ module _ {C S : Type 0} where
           IsRefused x (refusal_of cmp wire limits judge verdicts (as_nanos w.wall) p) → bare x ≡ judged_read (read wire limits w.frame)
       refused_as x p spells is = refusal_does x (passes p) (refusal_of cmp wire limits judge verdicts (as_nanos w.wall) p) is ∙ ap judged_read (sym spells)
 
-      verdicts_is : (x : Outcome C S) → ComesOfVerdicts cmp wire limits judge w verdicts x → bare x ≡ judged_read (read wire limits w.frame)
-      verdicts_is (Outcome.Greets info question) comes = ap (refused (Outcome.Greets info None)) (sym comes.1) ∙ ap judged_read (sym comes.0)
-      verdicts_is (Outcome.Takes infos) comes = ap (refused (Outcome.Takes infos)) (sym comes.1) ∙ ap judged_read (sym comes.0)
-      verdicts_is (Outcome.Breaks breach blocked) comes = refused_as (Outcome.Breaks breach blocked) comes.0 comes.1 comes.2
-      verdicts_is Outcome.IsEarly comes = refused_as Outcome.IsEarly comes.0 comes.1 comes.2
-      verdicts_is (Outcome.Waits v) comes = absurd comes.2
-      verdicts_is (Outcome.Answers reply) comes = absurd comes.2
-      verdicts_is (Outcome.Delivers message) comes = absurd comes.2
-      verdicts_is Outcome.Ignores comes = absurd comes.2
-      verdicts_is Outcome.LacksChannel comes = absurd comes.2
-      verdicts_is (Outcome.Delays next) comes = absurd comes.2
-      verdicts_is (Outcome.Reads kind looked) comes = absurd comes.2
+      verdicts_is : (x : Outcome C S) → IsAsDialer dialer x → ComesOfVerdicts cmp wire limits judge w verdicts x →
+          bare x ≡ judged_read (read wire limits w.frame)
+      verdicts_is (Outcome.Greets other info question) dials comes = ap (λ b. Outcome.Greets b info None) dials
+          ∙ ap (refused (Outcome.Greets dialer info None)) (sym comes.1) ∙ ap judged_read (sym comes.0)
+      verdicts_is (Outcome.Takes infos) dials comes = ap (refused (Outcome.Takes infos)) (sym comes.1) ∙ ap judged_read (sym comes.0)
+      verdicts_is (Outcome.Breaks breach blocked) dials comes = refused_as (Outcome.Breaks breach blocked) comes.0 comes.1 comes.2
+      verdicts_is Outcome.IsEarly dials comes = refused_as Outcome.IsEarly comes.0 comes.1 comes.2
+      verdicts_is (Outcome.Waits v) dials comes = absurd comes.2
+      verdicts_is (Outcome.Answers reply) dials comes = absurd comes.2
+      verdicts_is (Outcome.Delivers message) dials comes = absurd comes.2
+      verdicts_is Outcome.Ignores dials comes = absurd comes.2
+      verdicts_is Outcome.LacksChannel dials comes = absurd comes.2
+      verdicts_is (Outcome.Delays next) dials comes = absurd comes.2
+      verdicts_is (Outcome.Reads kind looked) dials comes = absurd comes.2
 
   -- ONE CAUSE, ONE OUTCOME
   module _ (cmp : C → C → Ordering) (wire : Wire C S) (reading : Begins wire) (node : Standing C S) where
-    one_outcome : (ph : Phase) (owed : ℕ) (waiting : Option Waiting) (p : C) (c : Cause) (x y : Outcome C S) →
-        is_head c ≡ false → IsOutcome cmp wire node ph owed waiting p c x → IsOutcome cmp wire node ph owed waiting p c y → bare x ≡ bare y
-    one_outcome phase.Greeting owed None p (Cause.OfFrame frame wall) x y isnt one other =
+    one_outcome : (dialer : Bool) (ph : Phase) (owed : ℕ) (waiting : Option Waiting) (p : C) (c : Cause) (x y : Outcome C S) →
+        is_head c ≡ false → IsAsDialer dialer x → IsAsDialer dialer y → IsOutcome cmp wire node ph owed waiting p c x → IsOutcome cmp wire node ph owed waiting p c y → bare x ≡ bare y
+    one_outcome dialer phase.Greeting owed None p (Cause.OfFrame frame wall) x y isnt dials dials_too one other =
         first_is cmp wire reading node.limits node.judge p frame wall x one
         ∙ sym (first_is cmp wire reading node.limits node.judge p frame wall y other)
-    one_outcome phase.Greeting owed None p (Cause.OfVerdicts verdicts) x y isnt one other = absurd one
-    one_outcome phase.Greeting owed (Some w) p (Cause.OfFrame frame wall) x y isnt one other = absurd one
-    one_outcome phase.Greeting owed (Some w) p (Cause.OfVerdicts verdicts) x y isnt one other =
-        verdicts_is cmp wire reading node.limits node.judge w verdicts x one.1
-        ∙ sym (verdicts_is cmp wire reading node.limits node.judge w verdicts y other.1)
-    one_outcome phase.Open owed None p (Cause.OfFrame frame wall) x y isnt one other =
+    one_outcome dialer phase.Greeting owed None p (Cause.OfVerdicts verdicts) x y isnt dials dials_too one other = absurd one
+    one_outcome dialer phase.Greeting owed (Some w) p (Cause.OfFrame frame wall) x y isnt dials dials_too one other = absurd one
+    one_outcome dialer phase.Greeting owed (Some w) p (Cause.OfVerdicts verdicts) x y isnt dials dials_too one other =
+        verdicts_is cmp wire reading node.limits node.judge dialer w verdicts x dials one.1
+        ∙ sym (verdicts_is cmp wire reading node.limits node.judge dialer w verdicts y dials_too other.1)
+    one_outcome dialer phase.Open owed None p (Cause.OfFrame frame wall) x y isnt dials dials_too one other =
         next_is cmp wire reading node.limits node.judge node.infos frame wall owed x one
         ∙ sym (next_is cmp wire reading node.limits node.judge node.infos frame wall owed y other)
-    one_outcome phase.Open owed None p (Cause.OfVerdicts verdicts) x y isnt one other = absurd one
-    one_outcome phase.Open owed (Some w) p (Cause.OfFrame frame wall) x y isnt one other = absurd one
-    one_outcome phase.Open owed (Some w) p (Cause.OfVerdicts verdicts) x y isnt one other =
-        verdicts_is cmp wire reading node.limits node.judge w verdicts x one.1
-        ∙ sym (verdicts_is cmp wire reading node.limits node.judge w verdicts y other.1)
-    one_outcome phase.Greeting owed None p (Cause.OfHead longest head size) x y isnt one other = absurd cc
-    one_outcome phase.Greeting owed (Some w) p (Cause.OfHead longest head size) x y isnt one other = absurd one
-    one_outcome phase.Open owed None p (Cause.OfHead longest head size) x y isnt one other = absurd cc
-    one_outcome phase.Open owed (Some w) p (Cause.OfHead longest head size) x y isnt one other = absurd one
-    one_outcome phase.Closing owed waiting p c x y isnt one other = absurd one
+    one_outcome dialer phase.Open owed None p (Cause.OfVerdicts verdicts) x y isnt dials dials_too one other = absurd one
+    one_outcome dialer phase.Open owed (Some w) p (Cause.OfFrame frame wall) x y isnt dials dials_too one other = absurd one
+    one_outcome dialer phase.Open owed (Some w) p (Cause.OfVerdicts verdicts) x y isnt dials dials_too one other =
+        verdicts_is cmp wire reading node.limits node.judge dialer w verdicts x dials one.1
+        ∙ sym (verdicts_is cmp wire reading node.limits node.judge dialer w verdicts y dials_too other.1)
+    one_outcome dialer phase.Greeting owed None p (Cause.OfHead longest head size) x y isnt dials dials_too one other = absurd cc
+    one_outcome dialer phase.Greeting owed (Some w) p (Cause.OfHead longest head size) x y isnt dials dials_too one other = absurd one
+    one_outcome dialer phase.Open owed None p (Cause.OfHead longest head size) x y isnt dials dials_too one other = absurd cc
+    one_outcome dialer phase.Open owed (Some w) p (Cause.OfHead longest head size) x y isnt dials dials_too one other = absurd one
+    one_outcome dialer phase.Closing owed waiting p c x y isnt dials dials_too one other = absurd one
 
   pub one_cause : (b : Base C S) → Begins b.wire → (h : List (Happening C S)) (n m : ℕ) (p : C) (t u : Duration) (owed other : ℕ)
       (c : Cause) (x y : Outcome C S) → is_head c ≡ false → IsRight b h (Happening.Heard n p t owed c x) →
@@ -312,8 +315,8 @@ module _ {C S : Type 0} where
     where
       go : (o : Option Held) → IsSomeAnd o (IsHeard b h n p t owed c x) → IsSomeAnd o (IsHeard b h m p u other c y) → bare x ≡ bare y
       go None one two = absurd one
-      go (Some held) one two = one_outcome b.made.directory.cmp b.wire reading (standing b (calls_of h)) held.phase held.owed held.waiting p c x y
-          isnt one.comes two.comes
+      go (Some held) one two = one_outcome b.made.directory.cmp b.wire reading (standing b (calls_of h)) (is_dialer held) held.phase held.owed held.waiting p c x y
+          isnt one.dials two.dials one.comes two.comes
 
   -- FOR WHAT A PEER IS BLOCKED
 
@@ -348,8 +351,8 @@ module _ {C S : Type 0} where
     heard_calls : (n : ℕ) (q : C) (t : Duration) (owed : ℕ) (c : Cause) (x : Outcome C S) →
         Contains (calls_by (Happening.Heard n q t owed c x)) call → Blames p now (Happening.Heard n q t owed c x)
     heard_calls n q t owed c (Outcome.Waits w) is = absurd (nothing_in call is)
-    heard_calls n q t owed c (Outcome.Greets info question) is =
-        absurd (of_two (Connect q false) (Update (info ∷ [])) (λ is. cc) (λ is. cc) is)
+    heard_calls n q t owed c (Outcome.Greets dialer info question) is =
+        absurd (of_two (Connect q dialer) (Update (info ∷ [])) (λ is. cc) (λ is. cc) is)
     heard_calls n q t owed c (Outcome.Takes infos) is = absurd (not_update infos (only_one call (Update infos) is))
       where
         not_update : (infos : List (Info C S)) → ¬ (Is (Update infos) call)
@@ -375,7 +378,11 @@ module _ {C S : Type 0} where
     call_by (Happening.Proved n q t draw) is = absurd (not_this (Listen q (as_nanos t) (as_nanos draw)) (λ is. cc) is)
     call_by (Happening.Unproved n q t why) is = absurd (nothing_in call is)
     call_by (Happening.Left n t) is = absurd (nothing_in call is)
-    call_by (Happening.Ended n q t) is = absurd (not_this (Release q) (λ is. cc) is)
+    call_by (Happening.Dialed n q t draw word ingress) is = absurd (not_this (Dial q (as_nanos t) (as_nanos draw)) (λ is. cc) is)
+    call_by (Happening.Undialed t) is = absurd (nothing_in call is)
+    call_by (Happening.Reached n q t) is = absurd (nothing_in call is)
+    call_by (Happening.Mistaken n q t) is = absurd (nothing_in call is)
+    call_by (Happening.Ended n q t direction) is = absurd (not_this (Release q) (λ is. cc) is)
     call_by (Happening.SetCame t index primary secondary torn) is =
         absurd (not_this (Track index primary secondary) (λ is. cc) is)
     call_by (Happening.StaleSetCame index primary secondary) is =

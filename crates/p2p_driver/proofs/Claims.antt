@@ -14,14 +14,14 @@ use Rattle.p2p_tracker.specs.History.{last_with, found_with}
 use Rattle.p2p_directory.specs.Run.{world_after}
 use Rattle.p2p_driver.specs.Answers.{AreAnswered}
 use Rattle.p2p_driver.specs.Drivers.{Base, AreRight, IsInTime, link, may_come, no_proof, is_claim_by}
-use Rattle.p2p_driver.specs.Happenings.{Happening, time_by, latest_at, latest_of, answered_in, calls_of, stream_at, link_count, is_proved, is_ended}
+use Rattle.p2p_driver.specs.Happenings.{Happening, time_by, latest_at, latest_of, answered_in, calls_of, stream_at, inbound_count, link_count}
 use Rattle.p2p_driver.specs.Rates.{AreBefore}
 use Rattle.p2p_driver.specs.Steps.{no_proof_of}
 use Rattle.p2p_driver.specs.declared.arrivals.Arrival.{Arrival}
 use Rattle.p2p_driver.specs.declared.origin.Origin.{Origin}
+use Rattle.p2p_driver.proofs.Budget.{inbound_stays, links_stay}
 use Rattle.p2p_driver.proofs.InTime.{latest_kept}
 use Rattle.p2p_driver.proofs.LinkHistory.{link_stays}
-use Rattle.p2p_driver.proofs.Standing.{one_more}
 use Rattle.p2p_driver.proofs.StreamHistory.{stream_after, stream_later}
 
 module _ {C S : Type 0} (b : Base C S) where
@@ -61,7 +61,11 @@ module _ {C S : Type 0} (b : Base C S) where
   none_after (Happening.Proved n q t draw ∷ h) right = other (Happening.Proved n q t draw) h refl right.1 (none_after h right.2)
   none_after (Happening.Unproved n q t why ∷ h) right = other (Happening.Unproved n q t why) h refl right.1 (none_after h right.2)
   none_after (Happening.Left n t ∷ h) right = other (Happening.Left n t) h refl right.1 (none_after h right.2)
-  none_after (Happening.Ended n q t ∷ h) right = other (Happening.Ended n q t) h refl right.1 (none_after h right.2)
+  none_after (Happening.Dialed n q t draw word ingress ∷ h) right = other (Happening.Dialed n q t draw word ingress) h refl right.1 (none_after h right.2)
+  none_after (Happening.Undialed t ∷ h) right = other (Happening.Undialed t) h refl right.1 (none_after h right.2)
+  none_after (Happening.Reached n q t ∷ h) right = other (Happening.Reached n q t) h refl right.1 (none_after h right.2)
+  none_after (Happening.Mistaken n q t ∷ h) right = other (Happening.Mistaken n q t) h refl right.1 (none_after h right.2)
+  none_after (Happening.Ended n q t direction ∷ h) right = other (Happening.Ended n q t direction) h refl right.1 (none_after h right.2)
   none_after (Happening.SetCame t index primary secondary torn ∷ h) right =
       other (Happening.SetCame t index primary secondary torn) h refl right.1 (none_after h right.2)
   none_after (Happening.StaleSetCame index primary secondary ∷ h) right =
@@ -88,7 +92,11 @@ module _ {C S : Type 0} (b : Base C S) where
   are_answered (Happening.Proved n q t draw ∷ h) right = are_answered h right.2
   are_answered (Happening.Unproved n q t why ∷ h) right = are_answered h right.2
   are_answered (Happening.Left n t ∷ h) right = are_answered h right.2
-  are_answered (Happening.Ended n q t ∷ h) right = are_answered h right.2
+  are_answered (Happening.Dialed n q t draw word ingress ∷ h) right = are_answered h right.2
+  are_answered (Happening.Undialed t ∷ h) right = are_answered h right.2
+  are_answered (Happening.Reached n q t ∷ h) right = are_answered h right.2
+  are_answered (Happening.Mistaken n q t ∷ h) right = are_answered h right.2
+  are_answered (Happening.Ended n q t direction ∷ h) right = are_answered h right.2
   are_answered (Happening.SetCame t index primary secondary torn ∷ h) right = are_answered h right.2
   are_answered (Happening.StaleSetCame index primary secondary ∷ h) right = are_answered h right.2
   are_answered (Happening.StreamLate n t ∷ h) right = are_answered h right.2
@@ -115,14 +123,12 @@ module _ {C S : Type 0} (b : Base C S) where
       e = Happening.Claimed n p origin t
 
       comes : may_come b (e ∷ h) p (as_nanos t) ≡ may_come b h p (as_nanos t)
-      comes = ap (λ k. (nat_lt k b.pace.links && nat_lt k b.pace.inbound) && (not (is_some (link b p (e ∷ h)))
-          && may_listen_at b.made.directory (world_after b.made.directory (calls_of h)) p (as_nanos t))) counted
-          ∙ ap (λ o. (nat_lt (link_count h) b.pace.links && nat_lt (link_count h) b.pace.inbound) && (not (is_some o)
+      comes = (λ i. (nat_lt (links_stay e h refl refl refl (λ way. refl) i) b.pace.links && nat_lt (inbound_stays e h refl refl i) b.pace.inbound)
+          && (not (is_some (link b p (e ∷ h)))
+          && may_listen_at b.made.directory (world_after b.made.directory (calls_of h)) p (as_nanos t)))
+          ∙ ap (λ o. (nat_lt (link_count h) b.pace.links && nat_lt (inbound_count h) b.pace.inbound) && (not (is_some o)
           && may_listen_at b.made.directory (world_after b.made.directory (calls_of h)) p (as_nanos t)))
           (link_stays b.made.directory p e h refl refl refl)
-        where
-          counted : link_count (e ∷ h) ≡ link_count h
-          counted = let proved = one_more is_proved e h false refl in let ended = one_more is_ended e h false refl in grind (arith)
 
       itself : (n == n) ≡ true
       itself = grind (arith, nat_tests)

@@ -88,7 +88,7 @@ module _ {C S : Type 0} (s : Settings C S) where
   heard_cut n q t owed cause (Outcome.Reads kind looked) h p w is = absurd cc
   heard_cut n q t owed cause (Outcome.Delays next) h p w is = absurd cc
   heard_cut n q t owed cause (Outcome.Waits waiting) h p w is = absurd cc
-  heard_cut n q t owed cause (Outcome.Greets info question) h p w is = absurd cc
+  heard_cut n q t owed cause (Outcome.Greets dialer info question) h p w is = absurd cc
   heard_cut n q t owed cause (Outcome.Takes infos) h p w is = absurd cc
   heard_cut n q t owed cause (Outcome.Answers reply) h p w is = absurd cc
   heard_cut n q t owed cause (Outcome.Delivers message) h p w is = absurd cc
@@ -102,7 +102,12 @@ module _ {C S : Type 0} (s : Settings C S) where
   cut h (Happening.Proved n q t draw) p w is = absurd cc
   cut h (Happening.Unproved n q t y) p w is = absurd cc
   cut h (Happening.Left n t) p w is = absurd cc
-  cut h (Happening.Ended n q t) p w is = absurd cc
+  cut h (Happening.Dialed n q t draw word ingress) p w is = absurd cc
+  cut h (Happening.Undialed t) p w is = absurd cc
+  cut h (Happening.Reached n q t) p w is = absurd cc
+  cut h (Happening.Mistaken n q t) p w is = link_later s p (Happening.Mistaken n q t) h refl
+      ∙ closed_by (same s q p) (link_at s p h) (told (same s q p) why.WrongKey w is).0
+  cut h (Happening.Ended n q t direction) p w is = absurd cc
   cut h (Happening.SetCame t index primary secondary torn) p w is = absurd cc
   cut h (Happening.StaleSetCame index primary secondary) p w is = absurd cc
   cut h (Happening.StreamLate n t) p w is = absurd cc
@@ -141,7 +146,7 @@ module _ {C S : Type 0} (s : Settings C S) where
     heard_said n q t owed cause (Outcome.Reads kind looked) w is = absurd cc
     heard_said n q t owed cause (Outcome.Delays next) w is = absurd cc
     heard_said n q t owed cause (Outcome.Waits waiting) w is = absurd cc
-    heard_said n q t owed cause (Outcome.Greets info question) w is = absurd cc
+    heard_said n q t owed cause (Outcome.Greets dialer info question) w is = absurd cc
     heard_said n q t owed cause (Outcome.Takes infos) w is = absurd cc
     heard_said n q t owed cause (Outcome.Answers reply) w is = absurd cc
     heard_said n q t owed cause (Outcome.Delivers message) w is = absurd cc
@@ -155,7 +160,11 @@ module _ {C S : Type 0} (s : Settings C S) where
     cut_said (Happening.Proved n q t draw) w is = absurd cc
     cut_said (Happening.Unproved n q t y) w is = absurd cc
     cut_said (Happening.Left n t) w is = absurd cc
-    cut_said (Happening.Ended n q t) w is = absurd cc
+    cut_said (Happening.Dialed n q t draw word ingress) w is = absurd cc
+    cut_said (Happening.Undialed t) w is = absurd cc
+    cut_said (Happening.Reached n q t) w is = absurd cc
+    cut_said (Happening.Mistaken n q t) w is = shut_said q why.WrongKey w is
+    cut_said (Happening.Ended n q t direction) w is = absurd cc
     cut_said (Happening.SetCame t index primary secondary torn) w is = absurd cc
     cut_said (Happening.StaleSetCame index primary secondary) w is = absurd cc
     cut_said (Happening.StreamLate n t) w is = absurd cc

@@ -2,7 +2,7 @@
 use Rattle.std.proofs.Common.{false, ◌≡◌, Bool, true, not, ◌&&◌, nat_lt, Option, Some, None, find, filter, ℕ, ◌+◌, ◌≤◌, ◌<◌, List, [], ◌∷◌, ◌++◌, refl, sym, ◌∙◌, ap, subst}
 use Rattle.std.proofs.Common.{arith, ◌*◌, nat_le}
 use Rattle.std.proofs.lemmas.Bool.Decides.{nat_tests}
-use Rattle.std.specs.Prelude.{max, length, is_some, IfSome}
+use Rattle.std.specs.Prelude.{max, is_some, IfSome, option_map}
 use Rattle.std.specs.Option.{IsSomeAnd}
 use Rattle.std.specs.Duration.{as_nanos}
 use Rattle.std.specs.declared.cmp.Ordering.{Ordering}
@@ -16,11 +16,11 @@ use Rattle.p2p_directory.specs.declared.node.setup.Setup.{Setup}
 use Rattle.p2p_directory.specs.Received.{Wire}
 use Rattle.p2p_driver.specs.Actions.{ActionsView}
 use Rattle.p2p_driver.specs.Answers.{AnswersView, AreKept, MayAnswer, IsClaimRefusal, roomless}
-use Rattle.p2p_driver.specs.Steps.{comes_by}
+use Rattle.p2p_driver.specs.Steps.{comes_by, dials_by}
 use Rattle.p2p_driver.specs.Arrivals.{arrival_of, room_of, arrived, has_number, claimed}
-use Rattle.p2p_driver.specs.Drivers.{DriverView, DriverStands, DriverStandsAt, Does, Comes, AreStreams, Base, link, may_come, may_claim, AnswersClaim, ClaimedBy, seen, base_of}
-use Rattle.p2p_driver.specs.Happenings.{Happening, crowded_out, closing, answered_in, calls_of, link_count}
-use Rattle.p2p_driver.specs.Links.{link_of, needs}
+use Rattle.p2p_driver.specs.Drivers.{DriverView, DriverStands, DriverStandsAt, Does, Comes, AreStreams, Base, link, may_come, has_dial_place, may_claim, AnswersClaim, ClaimedBy, seen, base_of}
+use Rattle.p2p_driver.specs.Happenings.{Happening, crowded_out, closing, answered_in, calls_of, inbound_count, outbound_count, link_count}
+use Rattle.p2p_driver.specs.Links.{link_of, count_of, needs}
 use Rattle.p2p_driver.specs.Meters.{MetersView}
 use Rattle.p2p_driver.specs.Reads.{reads_of}
 use Rattle.p2p_driver.specs.declared.actions.Action.{Action}
@@ -28,9 +28,12 @@ use Rattle.p2p_driver.specs.declared.actions.Why.{Why}
 use Rattle.p2p_driver.specs.declared.arrivals.Arrival.{Arrival}
 use Rattle.p2p_driver.specs.declared.arrivals.Room.{Room}
 use Rattle.p2p_driver.specs.declared.arrivals.Room.TheVariants as room
+use Rattle.p2p_driver.specs.declared.links.Direction.TheVariants.{Inbound, Dialing, Outbound}
 use Rattle.p2p_driver.specs.declared.links.Held.{Held}
 use Rattle.p2p_driver.specs.declared.origin.Origin.{Origin}
 use Rattle.p2p_driver.specs.declared.pace.Pace.{Pace}
+use Rattle.p2p_driver.specs.declared.next_dial.NextDial.{NextDial}
+use Rattle.p2p_driver.proofs.Counted.{as_many, as_inbound, as_dialing, as_outbound}
 use Rattle.p2p_driver.proofs.Standing
 
 module _ {C S : Type 0} {cmp : C → C → Ordering} {wire : Wire C S} where
@@ -71,16 +74,17 @@ unslotted at = record {
 
 module _ {C S : Type 0} where
   -- parts that are as they are seen
-  pub viewed : (v : DriverView C S) (node : NodeView C S) (pace : Pace) (greeting : List ℕ) (cooldown latest next : ℕ)
+  pub viewed : (v : DriverView C S) (node : NodeView C S) (pace : Pace) (greeting : List ℕ) (cooldown : ℕ) (dial : NextDial) (latest next : ℕ)
       (arrivals : List (Arrival C)) (answers : AnswersView) (reads : List (ℕ × MetersView)) (links : List (C × Held)) (actions : List (Action C)) →
-      v.node ≡ record node { slots = [] } → v.pace ≡ pace → v.greeting ≡ greeting → v.cooldown ≡ cooldown → v.latest ≡ latest → v.next ≡ next →
+      v.node ≡ record node { slots = [] } → v.pace ≡ pace → v.greeting ≡ greeting → v.cooldown ≡ cooldown → v.next_dial ≡ dial → v.latest ≡ latest → v.next ≡ next →
       v.arrivals ≡ arrivals → v.answers ≡ roomless answers → v.reads ≡ reads → v.links ≡ links → v.actions ≡ actions →
-      v ≡ seen node pace greeting cooldown latest next arrivals answers reads links actions
-  viewed v node pace greeting cooldown latest next arrivals answers reads links actions a b c l d e f g r h k = λ i. record {
+      v ≡ seen node pace greeting cooldown dial latest next arrivals answers reads links actions
+  viewed v node pace greeting cooldown dial latest next arrivals answers reads links actions a b c l s d e f g r h k = λ i. record {
     node = a i;
     pace = b i;
     greeting = c i;
     cooldown = l i;
+    next_dial = s i;
     latest = d i;
     next = e i;
     arrivals = f i;
@@ -90,19 +94,19 @@ module _ {C S : Type 0} where
     actions = k i;
   }
 
-module _ {C S : Type 0} (node : NodeView C S) (pace : Pace) (greeting : List ℕ) (cooldown latest next : ℕ)
+module _ {C S : Type 0} (node : NodeView C S) (pace : Pace) (greeting : List ℕ) (cooldown : ℕ) (dial : NextDial) (latest next : ℕ)
     (arrivals : List (Arrival C)) (answers : AnswersView) (reads : List (ℕ × MetersView)) (links : List (C × Held)) (actions : List (Action C)) where
   abbrev v : DriverView C S
-  v = seen node pace greeting cooldown latest next arrivals answers reads links actions
+  v = seen node pace greeting cooldown dial latest next arrivals answers reads links actions
 
   -- parts that are as they were
   pub kept_view : (xs : List (Arrival C)) (answers2 : AnswersView) (actions2 : List (Action C)) →
       xs ≡ arrivals → roomless answers2 ≡ roomless answers → actions2 ≡ actions →
-      seen node pace greeting cooldown latest next xs answers2 reads links actions2
-      ≡ seen node pace greeting cooldown latest next arrivals answers reads links actions
+      seen node pace greeting cooldown dial latest next xs answers2 reads links actions2
+      ≡ seen node pace greeting cooldown dial latest next arrivals answers reads links actions
   kept_view xs answers2 actions2 streams same said = sym (viewed
-      (seen node pace greeting cooldown latest next arrivals answers reads links actions) node pace greeting cooldown latest next xs answers2 reads links
-      actions2 refl refl refl refl refl refl (sym streams) (sym same) refl refl (sym said))
+      (seen node pace greeting cooldown dial latest next arrivals answers reads links actions) node pace greeting cooldown dial latest next xs answers2 reads links
+      actions2 refl refl refl refl refl refl refl (sym streams) (sym same) refl refl (sym said))
 
   -- the claims that were answered, at a later time, with room for more
   pub kept_from : (b : Base C S) (h : List (Happening C S)) (t : ℕ) → DriverStandsAt b h v → latest ≤ t →
@@ -113,14 +117,20 @@ module _ {C S : Type 0} (node : NodeView C S) (pace : Pace) (greeting : List ℕ
   -- whether a peer may come, by the history
   pub comes_is : (b : Base C S) (h : List (Happening C S)) → DriverStandsAt b h v → (p : C) (x : Bool) →
       comes_by b.made.directory.cmp pace links p x
-      ≡ ((nat_lt (link_count h) b.pace.links && nat_lt (link_count h) b.pace.inbound) && (not (is_some (link b p h)) && x))
+      ≡ ((nat_lt (link_count h) b.pace.links && nat_lt (inbound_count h) b.pace.inbound) && (not (is_some (link b p h)) && x))
   comes_is b h at p x =
       ap (λ q. comes_by b.made.directory.cmp q links p x) at.pace
-      ∙ ap (λ n. (nat_lt n b.pace.links && nat_lt n b.pace.inbound) && (not (is_some (link_of b.made.directory.cmp links p)) && x)) counted
-      ∙ ap (λ o. (nat_lt (link_count h) b.pace.links && nat_lt (link_count h) b.pace.inbound) && (not (is_some o) && x)) (at.links p)
-    where
-      counted : length links ≡ link_count h
-      counted = let both = at.count in grind (arith)
+      ∙ ap (λ n. (nat_lt n b.pace.links && nat_lt (count_of Inbound links) b.pace.inbound) && (not (is_some (link_of b.made.directory.cmp links p)) && x)) (as_many h links at.counts)
+      ∙ ap (λ n. (nat_lt (link_count h) b.pace.links && nat_lt n b.pace.inbound) && (not (is_some (link_of b.made.directory.cmp links p)) && x)) (as_inbound h links at.counts)
+      ∙ ap (λ o. (nat_lt (link_count h) b.pace.links && nat_lt (inbound_count h) b.pace.inbound) && (not (is_some o) && x)) (at.links p)
+
+  -- .. and whether another dial has a place
+  pub dials_is : (b : Base C S) (h : List (Happening C S)) → DriverStandsAt b h v → dials_by pace links ≡ has_dial_place b h
+  dials_is b h at =
+      ap (λ q. dials_by q links) at.pace
+      ∙ ap (λ n. nat_lt n b.pace.links && (nat_lt (count_of Dialing links + count_of Outbound links) b.pace.outbound && nat_lt (count_of Dialing links) b.pace.dials)) (as_many h links at.counts)
+      ∙ ap (λ n. nat_lt (link_count h) b.pace.links && (nat_lt n b.pace.outbound && nat_lt (count_of Dialing links) b.pace.dials)) (as_outbound h links at.counts)
+      ∙ ap (λ n. nat_lt (link_count h) b.pace.links && (nat_lt (outbound_count h) b.pace.outbound && nat_lt n b.pace.dials)) (as_dialing h links at.counts)
 
   -- what decides whether a peer may come
   abbrev pub MayIs : (C → C → Ordering) → C → Duration → Bool → Type 0
@@ -140,7 +150,7 @@ module _ {C S : Type 0} (node : NodeView C S) (pace : Pace) (greeting : List ℕ
         room_of pace (as_nanos t) arrivals origin ≡ space → xs ≡ arrived (arrival_of next origin t) space arrivals →
         roomless answers2 ≡ roomless answers → actions2 ≡ actions ++ crowded_out space → next2 ≡ next + 1 →
         Does cmp wire (Happening.Arrived next origin t space) v
-        (seen node pace greeting cooldown (as_nanos t) next2 xs answers2 reads links actions2)
+        (seen node pace greeting cooldown dial (as_nanos t) next2 xs answers2 reads links actions2)
     comes origin t space xs answers2 actions2 next2 after some is streams same said more = record {
       goes = λ given pace2 h at.
           subst (DriverStandsAt (base_of cmp wire given pace2) (Happening.Arrived next origin t space ∷ h))
@@ -149,7 +159,7 @@ module _ {C S : Type 0} (node : NodeView C S) (pace : Pace) (greeting : List ℕ
             next = next + 1;
             arrivals = arrived (arrival_of next origin t) space arrivals;
             actions = actions ++ crowded_out space;
-          }) node pace greeting cooldown (as_nanos t) next2 xs answers2 reads links actions2 refl refl refl refl refl (sym more) (sym streams) (sym same) refl refl (sym said))
+          }) node pace greeting cooldown dial (as_nanos t) next2 xs answers2 reads links actions2 refl refl refl refl refl refl (sym more) (sym streams) (sym same) refl refl (sym said))
           (Standing.came (base_of cmp wire given pace2) h v at origin t space some is after);
     }
 
@@ -162,7 +172,7 @@ module _ {C S : Type 0} (node : NodeView C S) (pace : Pace) (greeting : List ℕ
         MayAnswer pace (as_nanos t) stream.origin.0 claims
         × AreKept pace (as_nanos t) ((stream.origin.0, as_nanos t) ∷ claims) answers2) →
         Does cmp wire (Happening.Claimed n p stream.origin t) v
-        (seen node pace greeting cooldown (as_nanos t) next xs answers2 reads links actions2)
+        (seen node pace greeting cooldown dial (as_nanos t) next xs answers2 reads links actions2)
     claims_by n stream p t may xs answers2 actions2 number found none decides after yes_may streams said answered = record {
       goes = λ given pace2 h at.
           let b = base_of cmp wire given pace2 in
@@ -170,8 +180,8 @@ module _ {C S : Type 0} (node : NodeView C S) (pace : Pace) (greeting : List ℕ
           let here = sym found ∙ at.arrivals.each n in
           subst (DriverStandsAt b (Happening.Claimed n p stream.origin t ∷ h))
           (viewed (record v { latest = as_nanos t; arrivals = claimed n p arrivals; answers = roomless answers2 })
-          node pace greeting cooldown (as_nanos t) next xs answers2 reads links actions2
-          refl refl refl refl refl refl (ap (λ k. claimed k p arrivals) (sym number) ∙ sym streams) refl refl refl (sym said))
+          node pace greeting cooldown dial (as_nanos t) next xs answers2 reads links actions2
+          refl refl refl refl refl refl refl (ap (λ k. claimed k p arrivals) (sym number) ∙ sym streams) refl refl refl (sym said))
           (Standing.claims b h v at n p stream.origin t (roomless answers2) (
             subst (λ o. IsSomeAnd o (λ a. a.claim ≡ None)) here none,
             subst (λ o. IsSomeAnd o (λ a. a.origin.0 ≡ stream.origin.0)) here refl,
@@ -192,7 +202,7 @@ module _ {C S : Type 0} (node : NodeView C S) (pace : Pace) (greeting : List ℕ
         IsClaimRefusal pace (as_nanos t) stream.origin.0 claims may w
         × AreKept pace (as_nanos t) claims answers2) →
         Does cmp wire (Happening.Refused n p t w) v
-        (seen node pace greeting cooldown (as_nanos t) next xs answers2 reads links actions2)
+        (seen node pace greeting cooldown dial (as_nanos t) next xs answers2 reads links actions2)
     refuses_by n stream p t may w xs answers2 actions2 number found none decides after streams said answered = record {
       goes = λ given pace2 h at.
           let b = base_of cmp wire given pace2 in
@@ -205,11 +215,11 @@ module _ {C S : Type 0} (node : NodeView C S) (pace : Pace) (greeting : List ℕ
             answers = roomless answers2;
             actions = actions ++ closing n w;
           })
-          node pace greeting cooldown (as_nanos t) next xs answers2 reads links actions2
-          refl refl refl refl refl refl (ap (λ k. filter (λ a. not (has_number k a)) arrivals) (sym number) ∙ sym streams) refl refl refl
+          node pace greeting cooldown dial (as_nanos t) next xs answers2 reads links actions2
+          refl refl refl refl refl refl refl (ap (λ k. filter (λ a. not (has_number k a)) arrivals) (sym number) ∙ sym streams) refl refl refl
           (ap (λ k. actions ++ closing k w) (sym number) ∙ sym said))
           (Standing.goes b h v at n t (Happening.Refused n p t w) (closing n w) (roomless answers2)
-          refl (λ j. refl) (λ j. refl) (λ j. refl) refl refl (λ q. refl) (λ q. refl) (λ q. refl) refl refl refl refl refl (λ j. refl) (λ j. refl) (λ j place. refl) (
+          refl (λ j. refl) (λ j. refl) (λ j. refl) refl refl (λ q. refl) (λ q. refl) (λ q. refl) (λ way. refl) refl refl refl refl refl refl refl (λ j. refl) (λ j. refl) (λ j place. refl) (
             subst (λ o. IsSomeAnd o (λ a. a.claim ≡ None)) here none,
             (
               stream.origin,
@@ -247,11 +257,11 @@ module _ {C S : Type 0} {cmp : C → C → Ordering} {wire : Wire C S} where
 
 -- a new driver
 pub stands_new : {C S : Type 0} (cmp : C → C → Ordering) (wire : Wire C S) (given : Setup C S) (node : NodeView C S) (pace : Pace)
-    (greeting : List ℕ) (arrivals : List (Arrival C)) (answers : AnswersView) (reads : List (ℕ × MetersView)) (links : List (C × Held)) (actions : ActionsView C) →
-    NodeStandsAt (made_of cmp given) [] node → greeting ≡ wire.spelling (payload.Greeting given.myself) → arrivals ≡ [] →
+    (greeting : List ℕ) (dial : NextDial) (arrivals : List (Arrival C)) (answers : AnswersView) (reads : List (ℕ × MetersView)) (links : List (C × Held)) (actions : ActionsView C) →
+    option_map as_nanos dial.from ≡ Some 0 → dial.retry ≡ 0 → NodeStandsAt (made_of cmp given) [] node → greeting ≡ wire.spelling (payload.Greeting given.myself) → arrivals ≡ [] →
     AreKept pace 0 [] answers → reads ≡ [] → links ≡ [] → actions.items ≡ [] →
-    DriverStandsAt (base_of cmp wire given pace) [] (seen node pace greeting (as_nanos given.cfg.peer_connection_cooldown) 0 1 arrivals answers reads links actions.items)
-stands_new cmp wire given node pace greeting arrivals answers reads links actions stands own streams kept unread none nothing = record {
+    DriverStandsAt (base_of cmp wire given pace) [] (seen node pace greeting (as_nanos given.cfg.peer_connection_cooldown) dial 0 1 arrivals answers reads links actions.items)
+stands_new cmp wire given node pace greeting dial arrivals answers reads links actions zero first stands own streams kept unread none nothing = record {
   node = record {
     limit_fits = stands.limit_fits;
     refines = stands.refines;
@@ -268,7 +278,13 @@ stands_new cmp wire given node pace greeting arrivals answers reads links action
   answers = record { all = kept.all; each = kept.each };
   reads = λ n. ap (λ rs. reads_of rs n) unread;
   links = λ p. ap (λ es. link_of cmp es p) none;
-  count = let same = ap length none in grind (arith);
+  counts = record {
+    inbound = ap (λ es. count_of Inbound es + 0) none;
+    dialing = ap (λ es. count_of Dialing es + 0) none;
+    outbound = ap (λ es. count_of Outbound es + 0) none;
+  };
+  quiet = Standing.quiet_zero (made_of cmp given).directory (world_after (made_of cmp given).directory []) 0 (option_map as_nanos dial.from) zero;
+  retry = first;
   actions = nothing;
   right = tt;
 }

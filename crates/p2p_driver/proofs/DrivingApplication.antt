@@ -18,64 +18,67 @@ use Rattle.p2p_driver.specs.Actions.{is_sent_on}
 use Rattle.p2p_driver.specs.Answers.{AnswersView}
 use Rattle.p2p_driver.specs.Drivers.{DriverView, DriverStandsAt, Base, Does, AnswersPart, AnswersWritten, IsAllWritten, PartedBy, untaken, seen, base_of}
 use Rattle.p2p_driver.specs.Happenings.{Happening, calls_of, shut, closed_at, taken}
-use Rattle.p2p_driver.specs.Links.{link_of, writing}
+use Rattle.p2p_driver.specs.Links.{link_of, count_of, writing}
 use Rattle.p2p_driver.specs.Meters.{MetersView}
 use Rattle.p2p_driver.specs.Steps.{Makes, IsBlocked}
 use Rattle.p2p_driver.specs.declared.actions.Action.{Action}
 use Rattle.p2p_driver.specs.declared.actions.Why.TheVariants as why
 use Rattle.p2p_driver.specs.declared.arrivals.Arrival.{Arrival}
+use Rattle.p2p_driver.specs.declared.links.Direction.{Direction}
 use Rattle.p2p_driver.specs.declared.links.Held.{Held}
 use Rattle.p2p_driver.specs.declared.pace.Pace.{Pace}
+use Rattle.p2p_driver.specs.declared.next_dial.NextDial.{NextDial}
 use Rattle.p2p_driver.proofs.Driving.{slotted, unslotted}
 use Rattle.p2p_driver.proofs.Standing
+use Rattle.p2p_driver.proofs.Standing.{IsAtOnce}
 
 module _ {C S : Type 0} (cmp : C → C → Ordering) (wire : Wire C S) (node : NodeView C S) (pace : Pace)
-    (greeting : List ℕ) (cooldown latest next : ℕ) (arrivals : List (Arrival C)) (answers : AnswersView) (reads : List (ℕ × MetersView))
+    (greeting : List ℕ) (cooldown : ℕ) (dial : NextDial) (latest next : ℕ) (arrivals : List (Arrival C)) (answers : AnswersView) (reads : List (ℕ × MetersView))
     (links : List (C × Held)) (actions : List (Action C)) where
   abbrev v : DriverView C S
-  v = seen node pace greeting cooldown latest next arrivals answers reads links actions
+  v = seen node pace greeting cooldown dial latest next arrivals answers reads links actions
 
   -- infos came
-  pub gives : (infos : List (Info C S)) (t : Duration) (node2 : NodeView C S) → latest ≤ as_nanos t →
+  pub gives : (infos : List (Info C S)) (t : Duration) (node2 : NodeView C S) (dial2 : NextDial) → IsAtOnce dial dial2 → latest ≤ as_nanos t →
       Makes cmp (Update infos ∷ []) node node2 →
       Does cmp wire (Happening.Given infos t) v
-      (seen node2 pace greeting cooldown (as_nanos t) next arrivals answers reads links actions)
-  gives infos t node2 after made = record {
+      (seen node2 pace greeting cooldown dial2 (as_nanos t) next arrivals answers reads links actions)
+  gives infos t node2 dial2 once after made = record {
     goes = λ given pace2 h at.
-        Standing.gives (base_of cmp wire given pace2) h v at infos t (record node2 { slots = [] }) after
+        Standing.gives (base_of cmp wire given pace2) h v at infos t (record node2 { slots = [] }) dial2 once after
         (unslotted (made given (calls_of h) (slotted at.node)));
   }
 
   -- a peer was blocked
-  pub bars : (p : C) (t : Duration) (taken : Bool) (node2 : NodeView C S) (links2 : List (C × Held))
-      (actions2 : List (Action C)) → latest ≤ as_nanos t →
+  pub bars : (p : C) (t : Duration) (taken : Bool) (node2 : NodeView C S) (dial2 : NextDial) (links2 : List (C × Held))
+      (actions2 : List (Action C)) → IsAtOnce dial dial2 → latest ≤ as_nanos t →
       Makes cmp (Block p (as_nanos t) ∷ []) node node2 → IsBlocked cmp p (as_nanos t) (Some taken) node →
-      ((q : C) → link_of cmp links2 q ≡ closed_at cmp p (link_of cmp links) q) → length links2 ≡ length links →
+      ((q : C) → link_of cmp links2 q ≡ closed_at cmp p (link_of cmp links) q) → ((way : Direction) → count_of way links2 ≡ count_of way links) →
       actions2 ≡ actions ++ shut p why.Blocked (link_of cmp links p) →
       Does cmp wire (Happening.Barred p t taken) v
-      (seen node2 pace greeting cooldown (as_nanos t) next arrivals answers reads links2 actions2)
-  bars p t taken node2 links2 actions2 after made is tied same said = record {
+      (seen node2 pace greeting cooldown dial2 (as_nanos t) next arrivals answers reads links2 actions2)
+  bars p t taken node2 dial2 links2 actions2 once after made is tied same said = record {
     goes = λ given pace2 h at.
         let b = base_of cmp wire given pace2 in
         let stood = slotted at.node in
         subst (λ acts. DriverStandsAt b (Happening.Barred p t taken ∷ h)
-        (seen node2 pace greeting cooldown (as_nanos t) next arrivals answers reads links2 acts)) (sym said)
-        (Standing.bars b h v at p t taken (record node2 { slots = [] }) links2
+        (seen node2 pace greeting cooldown dial2 (as_nanos t) next arrivals answers reads links2 acts)) (sym said)
+        (Standing.bars b h v at p t taken (record node2 { slots = [] }) dial2 links2 once
         (is given (calls_of h) stood) after (unslotted (made given (calls_of h) stood)) tied same);
   }
 
   -- the application parts from a peer
   pub parts : (p : C) (t : Duration) (links2 : List (C × Held)) (actions2 : List (Action C)) →
       is_some (link_of cmp links p) ≡ true → latest ≤ as_nanos t →
-      ((q : C) → link_of cmp links2 q ≡ closed_at cmp p (link_of cmp links) q) → length links2 ≡ length links →
+      ((q : C) → link_of cmp links2 q ≡ closed_at cmp p (link_of cmp links) q) → ((way : Direction) → count_of way links2 ≡ count_of way links) →
       actions2 ≡ actions ++ shut p why.Application (link_of cmp links p) →
       Does cmp wire (Happening.Parted p t) v
-      (seen node pace greeting cooldown (as_nanos t) next arrivals answers reads links2 actions2)
+      (seen node pace greeting cooldown dial (as_nanos t) next arrivals answers reads links2 actions2)
   parts p t links2 actions2 linked after tied same said = record {
     goes = λ given pace2 h at.
         let b = base_of cmp wire given pace2 in
         subst (λ acts. DriverStandsAt b (Happening.Parted p t ∷ h)
-        (seen node pace greeting cooldown (as_nanos t) next arrivals answers reads links2 acts)) (sym said)
+        (seen node pace greeting cooldown dial (as_nanos t) next arrivals answers reads links2 acts)) (sym said)
         (Standing.parts b h v at p t links2 (sym (ap is_some (at.links p)) ∙ linked) after tied same);
   }
 
@@ -91,8 +94,8 @@ module _ {C S : Type 0} (cmp : C → C → Ordering) (wire : Wire C S) (node : N
   pub writes : (n : ℕ) (p : C) (held : Held) (t : Duration) (links2 : List (C × Held)) →
       link_of cmp links p ≡ Some held → held.number ≡ n → count_by (is_sent_on n) actions < length held.unwritten → latest ≤ as_nanos t →
       ((q : C) → link_of cmp links2 q ≡ (if is_at (cmp p) q then option_map writing (link_of cmp links q) else link_of cmp links q)) →
-      length links2 ≡ length links →
-      Does cmp wire (Happening.Written n p t) v (seen node pace greeting cooldown (as_nanos t) next arrivals answers reads links2 actions)
+      ((way : Direction) → count_of way links2 ≡ count_of way links) →
+      Does cmp wire (Happening.Written n p t) v (seen node pace greeting cooldown dial (as_nanos t) next arrivals answers reads links2 actions)
   writes n p held t links2 linked number few after tied same = record {
     goes = λ given pace2 h at.
         let b = base_of cmp wire given pace2 in

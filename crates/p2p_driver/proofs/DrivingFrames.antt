@@ -1,5 +1,5 @@
 -- How frames make a driver stand, by its parts.
-use Rattle.std.proofs.Common.{◌≡◌, Bool, true, false, not, ◌&&◌, ℕ, ◌-◌, ◌≤◌, List, [], ◌∷◌, ◌++◌, Option, Some, None, refl, sym, ◌∙◌, ap, subst}
+use Rattle.std.proofs.Common.{◌≡◌, inl, inr, Bool, true, false, not, ◌&&◌, ℕ, ◌-◌, ◌≤◌, List, [], ◌∷◌, ◌++◌, Option, Some, None, refl, sym, ◌∙◌, ap, subst}
 use Rattle.std.specs.Prelude.{IfSome, length, max, if◌then◌else◌, option_map}
 use Rattle.std.specs.BTreeMap.{is_at}
 use Rattle.std.proofs.lemmas.List.{append-nil}
@@ -15,14 +15,16 @@ use Rattle.p2p_directory.specs.Nodes.{NodeView, NodeStandsAt, Made, AtEach, made
 use Rattle.p2p_directory.specs.Received.{Wire, Standing}
 use Rattle.p2p_directory.specs.declared.node.setup.Setup.{Setup}
 use Rattle.p2p_directory.specs.Run.{world_after}
-use Rattle.p2p_driver.specs.Admissions.{SeenIn, IsRead, HearsOf, HasLink, CameOn, IsReturned, AnswersFrame}
+use Rattle.std.proofs.lemmas.Map.Lookups.{CmpEqualImpliesEq}
+use Rattle.std.proofs.lemmas.Map.Views.{tells_apart}
+use Rattle.p2p_driver.specs.Admissions.{SeenIn, IsRead, HearsOf, HasLink, HasNoLink, CameOn, IsReturned, AnswersFrame}
 use Rattle.p2p_driver.specs.Answers.{AnswersView}
 use Rattle.p2p_driver.specs.Drivers.{DriverView, DriverStandsAt, IsHeard, Does, seen, base_of}
-use Rattle.p2p_driver.specs.Frames.{Cause, Outcome, Shares, IsOutcome, ComesFirst, ComesNext, ComesOf, ComesOfVerdicts, owed_after, is_greeting_frame, is_unasked}
+use Rattle.p2p_driver.specs.Frames.{Cause, Outcome, Shares, IsOutcome, ComesFirst, ComesNext, ComesOf, ComesOfVerdicts, IsAsDialer, owed_after, is_greeting_frame, is_unasked}
 use Rattle.p2p_driver.specs.Frames.Cause.{OfFrame, OfVerdicts}
-use Rattle.p2p_driver.specs.Happenings.{Happening, calls_of, said_as}
+use Rattle.p2p_driver.specs.Happenings.{Happening, calls_of, calls_for, said_as}
 use Rattle.p2p_driver.specs.Hearing.{Follows, IsServed, IsMessage, IsServable, TellsNext}
-use Rattle.p2p_driver.specs.Links.{link_of, hearing, saying, has_room, has_room_at, is_expected, is_unexpected, is_timed}
+use Rattle.p2p_driver.specs.Links.{link_of, count_of, is_dialing, is_dialer, hearing, has_room, has_room_at, is_expected, is_unexpected, is_timed}
 use Rattle.p2p_driver.specs.Meters.{MetersView}
 use Rattle.p2p_driver.specs.Reading.{read_by, AreMetered, IsPaced}
 use Rattle.p2p_driver.specs.Steps.{MakesFor, IsDone, IsBlock, IsBlocked}
@@ -34,13 +36,16 @@ use Rattle.p2p_driver.specs.declared.actions.Breach.TheVariants as breach
 use Rattle.p2p_driver.specs.declared.arrivals.Arrival.{Arrival}
 use Rattle.p2p_driver.specs.declared.frames.Came.{Came}
 use Rattle.p2p_driver.specs.declared.frames.Came.TheVariants as came
+use Rattle.p2p_driver.specs.declared.links.Direction.{Direction}
 use Rattle.p2p_driver.specs.declared.links.Held.{Held}
 use Rattle.p2p_driver.specs.declared.links.Phase.{Phase}
 use Rattle.p2p_driver.specs.declared.links.Phase.TheVariants as phase
 use Rattle.p2p_driver.specs.declared.links.Waiting.{Waiting}
 use Rattle.p2p_driver.specs.declared.pace.Pace.{Pace}
+use Rattle.p2p_driver.specs.declared.next_dial.NextDial.{NextDial}
 use Rattle.p2p_driver.proofs.Driving.{slotted, unslotted}
 use Rattle.p2p_driver.proofs.Standing
+use Rattle.p2p_driver.proofs.Standing.{IsAtOnce, IsSought}
 
 module _ {C S : Type 0} (cmp : C → C → Ordering) (wire : Wire C S) (node : NodeView C S) where
   -- what is so by the limits and the verifier of a node is so wherever it stands
@@ -94,10 +99,10 @@ module _ {C S : Type 0} (cmp : C → C → Ordering) (wire : Wire C S) (node : N
       go phase.Closing isnt stands comes = absurd (isnt refl)
 
 module _ {C S : Type 0} (cmp : C → C → Ordering) (wire : Wire C S) (node : NodeView C S) (pace : Pace)
-    (greeting : List ℕ) (cooldown latest next : ℕ) (arrivals : List (Arrival C)) (answers : AnswersView) (reads : List (ℕ × MetersView))
+    (greeting : List ℕ) (cooldown : ℕ) (dial : NextDial) (latest next : ℕ) (arrivals : List (Arrival C)) (answers : AnswersView) (reads : List (ℕ × MetersView))
     (links : List (C × Held)) (actions : List (Action C)) where
   abbrev v : DriverView C S
-  v = seen node pace greeting cooldown latest next arrivals answers reads links actions
+  v = seen node pace greeting cooldown dial latest next arrivals answers reads links actions
 
   -- what is so of the frames that were read, wherever it stands
   abbrev pub ReadsAre : Happening C S → Duration → List (ℕ × MetersView) → Type 0
@@ -111,44 +116,47 @@ module _ {C S : Type 0} (cmp : C → C → Ordering) (wire : Wire C S) (node : N
 
   -- the peer of a link was heard, or may be
   pub hears_as : (n : ℕ) (p : C) (held : Held) (t : Duration) (owed : ℕ) (cause : Cause) (outcome : Outcome C S)
-      (node2 : NodeView C S) (reads2 : List (ℕ × MetersView)) (links2 : List (C × Held)) (actions2 : List (Action C)) →
+      (node2 : NodeView C S) (dial2 : NextDial) (reads2 : List (ℕ × MetersView)) (links2 : List (C × Held)) (actions2 : List (Action C)) →
+      IsAsDialer (is_dialer held) outcome → IsSought (calls_for p t outcome) dial dial2 →
       link_of cmp links p ≡ Some held → held.number ≡ n → latest ≤ as_nanos t → Outs cmp wire v.node p held cause outcome →
       Paces n t held cause outcome → owed ≡ owed_after held.phase outcome pace.owed held.owed →
       AtEach cmp node (λ m calls. IsDone wire m pace.refresh held.asked calls p t outcome) → MakesFor cmp p t outcome node node2 →
       ReadsAre (Happening.Heard n p t owed cause outcome) t reads2 → Follows cmp n p t owed outcome links links2 actions actions2 →
       IfSome (said_as t outcome) (λ at. has_room pace.queue held ≡ true) →
       Does cmp wire (Happening.Heard n p t owed cause outcome) v
-      (seen node2 pace greeting cooldown (as_nanos t) next arrivals answers reads2 links2 actions2)
-  hears_as n p held t owed cause outcome node2 reads2 links2 actions2 linked number after comes paced owes done made metered follows room = record {
+      (seen node2 pace greeting cooldown dial2 (as_nanos t) next arrivals answers reads2 links2 actions2)
+  hears_as n p held t owed cause outcome node2 dial2 reads2 links2 actions2 dials sought linked number after comes paced owes done made metered follows room = record {
     goes = λ given pace2 h at.
         let b = base_of cmp wire given pace2 in
         let stood = slotted at.node in
         subst (λ acts. DriverStandsAt b (Happening.Heard n p t owed cause outcome ∷ h)
-        (seen node2 pace greeting cooldown (as_nanos t) next arrivals answers reads2 links2 acts)) (sym follows.said)
-        (Standing.hears b h v at n p t owed cause outcome (record node2 { slots = [] }) reads2 links2
+        (seen node2 pace greeting cooldown dial2 (as_nanos t) next arrivals answers reads2 links2 acts)) (sym follows.said)
+        (Standing.hears b h v at n p t owed cause outcome (record node2 { slots = [] }) dial2 reads2 links2 sought
         (subst (λ o. IsSomeAnd o (IsHeard b h n p t owed cause outcome)) (sym linked ∙ at.links p) (record {
           number = number;
+          dials = dials;
           comes = comes given (calls_of h) at.node;
           owes = subst (λ q. owed ≡ owed_after held.phase outcome q.owed held.owed) at.pace owes;
           done = subst (λ (q : Pace). IsDone wire b.made q.refresh held.asked (calls_of h) p t outcome) at.pace (done given (calls_of h) stood);
           paced = paced given pace2 h at;
           room = subst (λ (q : Pace). IfSome (said_as t outcome) (λ at. has_room q.queue held ≡ true)) at.pace room;
         }))
-        after (unslotted (made given (calls_of h) stood)) (metered given pace2 h at) follows.links_are follows.count);
+        after (unslotted (made given (calls_of h) stood)) (metered given pace2 h at) follows.links_are follows.counts);
   }
 
   -- .. and no frame is read
   pub hears : (n : ℕ) (p : C) (held : Held) (t : Duration) (owed : ℕ) (cause : Cause) (outcome : Outcome C S)
-      (node2 : NodeView C S) (links2 : List (C × Held)) (actions2 : List (Action C)) →
+      (node2 : NodeView C S) (dial2 : NextDial) (links2 : List (C × Held)) (actions2 : List (Action C)) →
+      IsAsDialer (is_dialer held) outcome → IsSought (calls_for p t outcome) dial dial2 →
       link_of cmp links p ≡ Some held → held.number ≡ n → latest ≤ as_nanos t → Outs cmp wire v.node p held cause outcome →
       Paces n t held cause outcome → owed ≡ owed_after held.phase outcome pace.owed held.owed →
       AtEach cmp node (λ m calls. IsDone wire m pace.refresh held.asked calls p t outcome) → MakesFor cmp p t outcome node node2 →
       ((j : ℕ) (place : Option ℕ) → read_by j place (Happening.Heard n p t owed cause outcome) ≡ []) →
       Follows cmp n p t owed outcome links links2 actions actions2 → IfSome (said_as t outcome) (λ at. has_room pace.queue held ≡ true) →
       Does cmp wire (Happening.Heard n p t owed cause outcome) v
-      (seen node2 pace greeting cooldown (as_nanos t) next arrivals answers reads links2 actions2)
-  hears n p held t owed cause outcome node2 links2 actions2 linked number after comes paced owes done made unread follows room =
-      hears_as n p held t owed cause outcome node2 reads links2 actions2 linked number after comes paced owes done made
+      (seen node2 pace greeting cooldown dial2 (as_nanos t) next arrivals answers reads links2 actions2)
+  hears n p held t owed cause outcome node2 dial2 links2 actions2 dials sought linked number after comes paced owes done made unread follows room =
+      hears_as n p held t owed cause outcome node2 dial2 reads links2 actions2 dials sought linked number after comes paced owes done made
       (λ given pace2 h at. Standing.reads_later (base_of cmp wire given pace2) h v at (Happening.Heard n p t owed cause outcome) (as_nanos t) after
       (λ j. refl) (λ j. refl) unread) follows room
 
@@ -340,6 +348,22 @@ pub has_link : {C S : Type 0} (cmp : C → C → Ordering) (n : ℕ) (P : Held �
 has_link cmp n P v w same p held linked numbered is = subst (λ x. HasLink cmp n x P) same
     (p, held, linked, linked_as cmp v.links p held n linked numbered, is)
 
+-- no link has the number
+pub no_link : {C S : Type 0} (cmp : C → C → Ordering) (n : ℕ) (v w : DriverView C S) → v ≡ w →
+    ((p : C) (held : Held) → link_of cmp v.links p ≡ Some held → held.number ≡ n → ⊥) → HasNoLink cmp n w
+no_link cmp n v w same none = subst (HasNoLink cmp n) same (λ p held linked number. absurd (none p held linked number))
+
+-- .. but a dial under way
+pub no_link_dialing : {C S : Type 0} (cmp : C → C → Ordering) (n : ℕ) (v w : DriverView C S) → v ≡ w → CmpEqualImpliesEq cmp →
+    (p : C) (held : Held) → link_of cmp v.links p ≡ Some held →
+    ((q : C) (h : Held) → link_of cmp v.links q ≡ Some h → h.number ≡ n → is_at (cmp p) q ≡ true) → is_dialing held ≡ true → HasNoLink cmp n w
+no_link_dialing cmp n v w same exact p held linked only dials = subst (HasNoLink cmp n) same (λ q h of_q number.
+    subst (λ (x : Held). is_dialing x ≡ true)
+    (some_is (sym linked ∙ ap (link_of cmp v.links) (tells_apart exact p q (only q h of_q number)) ∙ of_q)) dials)
+  where
+    some_is : {x y : Held} → Some x ≡ Some y → x ≡ y
+    some_is e = cc
+
 -- a frame that found no memory leaves all as it was
 pub dropped : {C S : Type 0} (cmp : C → C → Ordering) (wire : Wire C S) (n : ℕ) (p : C) (owed : ℕ) (frame : List ℕ)
     (wall : Duration) (c : Came) (now : ℕ) (v v2 : DriverView C S) → (f : FoundOn cmp wire n p owed frame wall c v) →
@@ -352,11 +376,11 @@ served_read cmp wire n p owed frame wall v f = let is = served_open cmp wire v.n
     subst (λ ph. IsRead ph f.held.owed frame) (sym is.0) (is.1, is.2)
 
 -- parts that are as they were
-pub same_parts : {C S : Type 0} (node node2 : NodeView C S) (pace : Pace) (greeting : List ℕ) (cooldown latest next : ℕ) (arrivals : List (Arrival C))
+pub same_parts : {C S : Type 0} (node node2 : NodeView C S) (pace : Pace) (greeting : List ℕ) (cooldown : ℕ) (dial : NextDial) (latest next : ℕ) (arrivals : List (Arrival C))
     (answers : AnswersView) (reads : List (ℕ × MetersView)) (links : List (C × Held)) (actions actions2 : List (Action C)) → node2 ≡ node → actions2 ≡ actions →
-    seen node2 pace greeting cooldown latest next arrivals answers reads links actions2 ≡ seen node pace greeting cooldown latest next arrivals answers reads links actions
-same_parts node node2 pace greeting cooldown latest next arrivals answers reads links actions actions2 same said i =
-    seen (same i) pace greeting cooldown latest next arrivals answers reads links (said i)
+    seen node2 pace greeting cooldown dial latest next arrivals answers reads links actions2 ≡ seen node pace greeting cooldown dial latest next arrivals answers reads links actions
+same_parts node node2 pace greeting cooldown dial latest next arrivals answers reads links actions actions2 same said i =
+    seen (same i) pace greeting cooldown dial latest next arrivals answers reads links (said i)
 
 -- one more is said after those that were said
 pub said_then : {X : Type 0} (xs ys zs says : List X) → ys ≡ xs → zs ≡ ys ++ says → zs ≡ xs ++ says
@@ -393,14 +417,14 @@ bare cmp node P each given calls at = each given calls (slotted at)
 
 -- WHAT A DRIVER DOES OF A FRAME
 module _ {C S : Type 0} (cmp : C → C → Ordering) (wire : Wire C S) (node : NodeView C S) (pace : Pace)
-    (greeting : List ℕ) (cooldown latest next : ℕ) (arrivals : List (Arrival C)) (answers : AnswersView) (reads : List (ℕ × MetersView))
+    (greeting : List ℕ) (cooldown : ℕ) (dial : NextDial) (latest next : ℕ) (arrivals : List (Arrival C)) (answers : AnswersView) (reads : List (ℕ × MetersView))
     (links : List (C × Held)) (actions : List (Action C)) (n : ℕ) (p : C) (owed : ℕ) (frame : List ℕ) (wall t : Duration)
     (after : latest ≤ as_nanos t) where
   abbrev stood : DriverView C S
-  stood = seen node pace greeting cooldown latest next arrivals answers reads links actions
+  stood = seen node pace greeting cooldown dial latest next arrivals answers reads links actions
 
-  abbrev left : NodeView C S → List (C × Held) → List (Action C) → DriverView C S
-  left node2 links2 actions2 = seen node2 pace greeting cooldown (as_nanos t) next arrivals answers reads links2 actions2
+  abbrev left : NodeView C S → NextDial → List (C × Held) → List (Action C) → DriverView C S
+  left node2 dial2 links2 actions2 = seen node2 pace greeting cooldown dial2 (as_nanos t) next arrivals answers reads links2 actions2
 
   abbrev Found : Came → Type 0
   Found c = FoundOn cmp wire n p owed frame wall c stood
@@ -412,47 +436,47 @@ module _ {C S : Type 0} (cmp : C → C → Ordering) (wire : Wire C S) (node : N
   unmade : AtEach cmp node (λ m calls. NodeStandsAt m calls node)
   unmade given calls at = at
 
-  module _ (links2 : List (C × Held)) (actions2 : List (Action C)) (count : length links2 ≡ length links) where
+  module _ (links2 : List (C × Held)) (actions2 : List (Action C)) (counts : (way : Direction) → count_of way links2 ≡ count_of way links) where
     -- it waits
     pub waits_on : (w : Waiting) (owed2 : ℕ) → Found (came.Waits w) → owed2 ≡ owed - 1 → KeptAs (hearing t owed2 (Some w)) links2 → actions2 ≡ actions →
-        Does cmp wire (Happening.Heard n p t owed2 (OfFrame frame wall) (Outcome.Waits w)) stood (left node links2 actions2)
-    waits_on w owed2 f less kept same = hears cmp wire node pace greeting cooldown latest next arrivals answers reads links actions n p f.held t owed2
-        (OfFrame frame wall) (Outcome.Waits w) node links2 actions2 f.linked f.number after
+        Does cmp wire (Happening.Heard n p t owed2 (OfFrame frame wall) (Outcome.Waits w)) stood (left node dial links2 actions2)
+    waits_on w owed2 f less kept same = hears cmp wire node pace greeting cooldown dial latest next arrivals answers reads links actions n p f.held t owed2
+        (OfFrame frame wall) (Outcome.Waits w) node dial links2 actions2 tt (inl (refl, refl)) f.linked f.number after
         (waits_out cmp wire stood.node p f.held frame wall f.none w f.is_seen) (λ given pace2 h at. f.expected) (less ∙ ap (λ k. k - 1) (sym f.owed_is))
-        (λ given calls at. tt) unmade (λ j place. refl) (record { links_are = kept; count = count; said = said_none actions actions2 same }) tt
+        (λ given calls at. tt) unmade (λ j place. refl) (record { links_are = kept; counts = counts; said = said_none actions actions2 same }) tt
 
     -- it is ignored
     pub ignores_on : Found came.Ignored → KeptAs (hearing t owed None) links2 → actions2 ≡ actions →
-        Does cmp wire (Happening.Heard n p t owed (OfFrame frame wall) Outcome.Ignores) stood (left node links2 actions2)
-    ignores_on f kept same = hears cmp wire node pace greeting cooldown latest next arrivals answers reads links actions n p f.held t owed
-        (OfFrame frame wall) Outcome.Ignores node links2 actions2 f.linked f.number after
+        Does cmp wire (Happening.Heard n p t owed (OfFrame frame wall) Outcome.Ignores) stood (left node dial links2 actions2)
+    ignores_on f kept same = hears cmp wire node pace greeting cooldown dial latest next arrivals answers reads links actions n p f.held t owed
+        (OfFrame frame wall) Outcome.Ignores node dial links2 actions2 tt (inl (refl, refl)) f.linked f.number after
         (ignores_out cmp wire stood.node p f.held frame wall f.none f.is_seen) (λ given pace2 h at. f.expected) (sym f.owed_is)
-        (λ given calls at. tt) unmade (λ j place. refl) (record { links_are = kept; count = count; said = said_none actions actions2 same }) tt
+        (λ given calls at. tt) unmade (λ j place. refl) (record { links_are = kept; counts = counts; said = said_none actions actions2 same }) tt
 
     -- a message is delivered
     pub delivers_on : (message : Data) (held : Held) → link_of cmp links p ≡ Some held → held.number ≡ n →
         held.owed ≡ owed → is_expected frame held ≡ true → Outs cmp wire stood.node p held (OfFrame frame wall) (Outcome.Delivers message) → KeptAs (hearing t owed None) links2 → actions2 ≡ actions →
-        Does cmp wire (Happening.Heard n p t owed (OfFrame frame wall) (Outcome.Delivers message)) stood (left node links2 actions2)
-    delivers_on message held linked number owed_is expected out kept same = hears cmp wire node pace greeting cooldown latest next arrivals answers reads links actions n p held t owed
-        (OfFrame frame wall) (Outcome.Delivers message) node links2 actions2 linked number after out (λ given pace2 h at. expected) (sym owed_is)
-        (λ given calls at. tt) unmade (λ j place. refl) (record { links_are = kept; count = count; said = said_none actions actions2 same }) tt
+        Does cmp wire (Happening.Heard n p t owed (OfFrame frame wall) (Outcome.Delivers message)) stood (left node dial links2 actions2)
+    delivers_on message held linked number owed_is expected out kept same = hears cmp wire node pace greeting cooldown dial latest next arrivals answers reads links actions n p held t owed
+        (OfFrame frame wall) (Outcome.Delivers message) node dial links2 actions2 tt (inl (refl, refl)) linked number after out (λ given pace2 h at. expected) (sym owed_is)
+        (λ given calls at. tt) unmade (λ j place. refl) (record { links_are = kept; counts = counts; said = said_none actions actions2 same }) tt
 
   -- an info is of the future
   pub early_on : (links2 : List (C × Held)) (actions2 : List (Action C)) → Found came.Early →
       Follows {S = S} cmp n p t owed Outcome.IsEarly links links2 actions actions2 →
-      Does cmp wire (Happening.Heard n p t owed (OfFrame frame wall) Outcome.IsEarly) stood (left node links2 actions2)
-  early_on links2 actions2 f follows = hears cmp wire node pace greeting cooldown latest next arrivals answers reads links actions n p f.held t owed
-      (OfFrame frame wall) Outcome.IsEarly node links2 actions2 f.linked f.number after
+      Does cmp wire (Happening.Heard n p t owed (OfFrame frame wall) Outcome.IsEarly) stood (left node dial links2 actions2)
+  early_on links2 actions2 f follows = hears cmp wire node pace greeting cooldown dial latest next arrivals answers reads links actions n p f.held t owed
+      (OfFrame frame wall) Outcome.IsEarly node dial links2 actions2 tt (inl (refl, refl)) f.linked f.number after
       (early_out cmp wire stood.node p f.held frame wall f.none f.is_seen) (λ given pace2 h at. f.expected) (sym f.owed_is)
       (λ given calls at. tt) unmade (λ j place. refl) follows tt
 
   -- a rule is broken
-  pub breaks_on : (x : Breach) (blocked : Option Bool) (node2 : NodeView C S) (links2 : List (C × Held)) (actions2 : List (Action C)) → Found (came.Breach x) →
+  pub breaks_on : (x : Breach) (blocked : Option Bool) (node2 : NodeView C S) (dial2 : NextDial) (links2 : List (C × Held)) (actions2 : List (Action C)) → IsAtOnce dial dial2 → Found (came.Breach x) →
       MakesFor cmp p t (Outcome.Breaks x blocked) node node2 → IsBlocked cmp p (as_nanos t) blocked node →
       Follows {S = S} cmp n p t owed (Outcome.Breaks x blocked) links links2 actions actions2 →
-      Does cmp wire (Happening.Heard n p t owed (OfFrame frame wall) (Outcome.Breaks x blocked)) stood (left node2 links2 actions2)
-  breaks_on x blocked node2 links2 actions2 f made blocks follows = hears cmp wire node pace greeting cooldown latest next arrivals answers reads links actions n p f.held t owed
-      (OfFrame frame wall) (Outcome.Breaks x blocked) node2 links2 actions2 f.linked f.number after
+      Does cmp wire (Happening.Heard n p t owed (OfFrame frame wall) (Outcome.Breaks x blocked)) stood (left node2 dial2 links2 actions2)
+  breaks_on x blocked node2 dial2 links2 actions2 once f made blocks follows = hears cmp wire node pace greeting cooldown dial latest next arrivals answers reads links actions n p f.held t owed
+      (OfFrame frame wall) (Outcome.Breaks x blocked) node2 dial2 links2 actions2 tt (inr once) f.linked f.number after
       (breaks_out cmp wire stood.node p f.held frame wall f.none x blocked f.is_seen) (λ given pace2 h at. f.expected) (sym f.owed_is)
       (blocked_done cmp wire node p t x blocked blocks) made (λ j place. refl) follows tt
 
@@ -461,18 +485,19 @@ module _ {C S : Type 0} (cmp : C → C → Ordering) (wire : Wire C S) (node : N
   servable_on f = (served_open cmp wire stood.node p f.held frame wall f.none f.is_seen).3
 
   -- what its node answers comes of it
-  pub serves_on : (outcome : Outcome C S) (node2 : NodeView C S) (links2 : List (C × Held)) (actions2 : List (Action C)) → (f : Found came.Served) →
+  pub serves_on : (outcome : Outcome C S) (node2 : NodeView C S) (dial2 : NextDial) (links2 : List (C × Held)) (actions2 : List (Action C)) →
+      ((dials : Bool) → IsAsDialer dials outcome) → IsSought (calls_for p t outcome) dial dial2 → (f : Found came.Served) →
       ((owed : ℕ) (l : PayloadConfig) (j : Judge C S) (shares : Shares C S) → is_greeting_frame frame ≡ false → is_unasked owed frame ≡ false →
       ComesOf cmp wire l j shares frame wall outcome → ComesNext cmp wire l j shares owed frame wall outcome) →
       IsServed cmp wire frame wall outcome node → owed ≡ owed_after f.held.phase outcome pace.owed f.held.owed →
       AtEach cmp node (λ m calls. IsDone wire m pace.refresh f.held.asked calls p t outcome) → MakesFor cmp p t outcome node node2 →
       ((j : ℕ) (place : Option ℕ) → read_by j place (Happening.Heard n p t owed (OfFrame frame wall) outcome) ≡ []) →
       Follows cmp n p t owed outcome links links2 actions actions2 → IfSome (said_as t outcome) (λ at. has_room pace.queue f.held ≡ true) →
-      Does cmp wire (Happening.Heard n p t owed (OfFrame frame wall) outcome) stood (left node2 links2 actions2)
-  serves_on outcome node2 links2 actions2 f next_is served owes done made unread follows room =
+      Does cmp wire (Happening.Heard n p t owed (OfFrame frame wall) outcome) stood (left node2 dial2 links2 actions2)
+  serves_on outcome node2 dial2 links2 actions2 dials sought f next_is served owes done made unread follows room =
       let is = served_open cmp wire stood.node p f.held frame wall f.none f.is_seen in
-      hears cmp wire node pace greeting cooldown latest next arrivals answers reads links actions n p f.held t owed
-      (OfFrame frame wall) outcome node2 links2 actions2 f.linked f.number after
+      hears cmp wire node pace greeting cooldown dial latest next arrivals answers reads links actions n p f.held t owed
+      (OfFrame frame wall) outcome node2 dial2 links2 actions2 (dials (is_dialer f.held)) sought f.linked f.number after
       (served_out cmp wire stood.node p f.held frame wall f.none outcome is.0 (λ l j shares comes. next_is f.held.owed l j shares is.1 is.2 comes)
       (bare cmp node (λ m calls. let x = standing_in m wire (world_after m.directory calls) in
       ComesOf cmp wire x.limits x.judge x.infos frame wall outcome) served)) (λ given pace2 h at. f.expected) owes done made unread follows room

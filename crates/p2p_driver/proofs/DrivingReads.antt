@@ -19,7 +19,7 @@ use Rattle.p2p_driver.specs.Frames.Cause.{OfHead}
 use Rattle.p2p_driver.specs.Happenings.{Happening}
 use Rattle.p2p_driver.specs.Heads.{kind_of}
 use Rattle.p2p_driver.specs.Hearing.{Follows}
-use Rattle.p2p_driver.specs.Links.{link_of, hearing, allowing, is_open}
+use Rattle.p2p_driver.specs.Links.{link_of, count_of, is_dialing, hearing, allowing, is_open}
 use Rattle.p2p_driver.specs.Looked.{LookedView, looked_of}
 use Rattle.p2p_driver.specs.Meters.{MetersView, IsEarly}
 use Rattle.p2p_driver.specs.Reading.{rate_at, kind_at_rate, read_in, since_in, frames_read, IsMetered, IsDelayed, IsInTurn, ComesOfKind}
@@ -30,17 +30,20 @@ use Rattle.p2p_driver.specs.declared.actions.Breach.{Breach}
 use Rattle.p2p_driver.specs.declared.arrivals.Arrival.{Arrival}
 use Rattle.p2p_driver.specs.declared.heads.Kind.{Kind}
 use Rattle.p2p_driver.specs.declared.heads.Kind.TheVariants as kind
+use Rattle.p2p_driver.specs.declared.links.Direction.{Direction}
 use Rattle.p2p_driver.specs.declared.links.Held.{Held}
 use Rattle.p2p_driver.specs.declared.links.Phase.{Phase}
 use Rattle.p2p_driver.specs.declared.links.Phase.TheVariants as phase
 use Rattle.p2p_driver.specs.declared.links.Waiting.{Waiting}
 use Rattle.p2p_driver.specs.declared.pace.Pace.{Pace}
+use Rattle.p2p_driver.specs.declared.next_dial.NextDial.{NextDial}
 use Rattle.p2p_driver.specs.declared.rate.Rate.{Rate}
 use Rattle.p2p_driver.proofs.DrivingFrames.{Outs, Paces, stands_at, hears, hears_as, blocked_done, said_none}
 use Rattle.p2p_driver.proofs.Kept.{kept_later}
 use Rattle.p2p_driver.proofs.Lasting.{metered_by}
 use Rattle.p2p_driver.proofs.Metered.{metered_free, metered_reads}
 use Rattle.p2p_driver.proofs.Standing
+use Rattle.p2p_driver.proofs.Standing.{IsAtOnce, IsSought}
 
 -- a link that there is, on which a frame of a kind is to come
 pub record FoundTo {C S : Type 0} (cmp : C → C → Ordering) (longest n : ℕ) (p : C) (owed : ℕ) (head : List ℕ) (size : ℕ) (k : Kind)
@@ -50,6 +53,7 @@ pub record FoundTo {C S : Type 0} (cmp : C → C → Ordering) (longest n : ℕ)
   pub number : held.number ≡ n
   pub owed_is : held.owed ≡ owed
   pub none : held.waiting ≡ None
+  pub reached : is_dialing held ≡ false
   pub isnt : ¬ (held.phase ≡ phase.Closing)
   pub kind_is : k ≡ kind_of longest v.pace.channels.items v.node.limits (is_open held.phase) head size
 
@@ -59,21 +63,21 @@ found_to cmp longest n p owed head size k k2 v w same is on = go (link_of cmp w.
     (subst (λ x. LooksOn cmp longest n p owed head size k2 x) (sym same) (subst (λ x. LooksOn cmp longest n p owed head size x v) is on))
   where
     go : (o : Option Held) → link_of cmp w.links p ≡ o → IsSomeAnd o (λ held. (held.number ≡ n) × (held.owed ≡ owed) × (held.waiting ≡ None)
-        × (¬ (held.phase ≡ phase.Closing)) × (k2 ≡ kind_of longest w.pace.channels.items w.node.limits (is_open held.phase) head size)) →
+        × (is_dialing held ≡ false) × (¬ (held.phase ≡ phase.Closing)) × (k2 ≡ kind_of longest w.pace.channels.items w.node.limits (is_open held.phase) head size)) →
         FoundTo cmp longest n p owed head size k2 w
     go None is on = absurd on
-    go (Some held) is on = record { held = held; linked = is; number = on.0; owed_is = on.1; none = on.2; isnt = on.3; kind_is = on.4 }
+    go (Some held) is on = record { held = held; linked = is; number = on.0; owed_is = on.1; none = on.2; reached = on.3; isnt = on.4; kind_is = on.5 }
 
 -- .. as it is looked for
 pub looks_on : {C S : Type 0} (cmp : C → C → Ordering) (longest n : ℕ) (p : C) (owed : ℕ) (head : List ℕ) (size : ℕ) (k : Kind)
     (v w : DriverView C S) (held : Held) → v ≡ w → link_of cmp v.links p ≡ Some held → held.number ≡ n → held.owed ≡ owed → held.waiting ≡ None →
-    ¬ (held.phase ≡ phase.Closing) → k ≡ kind_of longest v.pace.channels.items v.node.limits (is_open held.phase) head size →
+    is_dialing held ≡ false → ¬ (held.phase ≡ phase.Closing) → k ≡ kind_of longest v.pace.channels.items v.node.limits (is_open held.phase) head size →
     LooksOn cmp longest n p owed head size k w
-looks_on cmp longest n p owed head size k v w held same linked number owed_is none isnt is =
+looks_on cmp longest n p owed head size k v w held same linked number owed_is none reached isnt is =
     subst (λ x. LooksOn cmp longest n p owed head size k x) same
     (subst (λ o. IsSomeAnd o (λ held. (held.number ≡ n) × (held.owed ≡ owed) × (held.waiting ≡ None)
-    × (¬ (held.phase ≡ phase.Closing)) × (k ≡ kind_of longest v.pace.channels.items v.node.limits (is_open held.phase) head size)))
-    (sym linked) (number, owed_is, none, isnt, is))
+    × (is_dialing held ≡ false) × (¬ (held.phase ≡ phase.Closing)) × (k ≡ kind_of longest v.pace.channels.items v.node.limits (is_open held.phase) head size)))
+    (sym linked) (number, owed_is, none, reached, isnt, is))
 
 -- how links are kept, by what may be handed in
 pub looked_at : {C : Type 0} (cmp : C → C → Ordering) (links links2 : List (C × Held)) (p : C) (l l2 : LookedView) → l ≡ l2 →
@@ -92,10 +96,10 @@ the_one P None some = absurd some
 the_one P (Some a) some = (a, refl, some)
 
 module _ {C S : Type 0} (cmp : C → C → Ordering) (wire : Wire C S) (node : NodeView C S) (pace : Pace)
-    (greeting : List ℕ) (cooldown latest next : ℕ) (arrivals : List (Arrival C)) (answers : AnswersView) (reads : List (ℕ × MetersView))
+    (greeting : List ℕ) (cooldown : ℕ) (dial : NextDial) (latest next : ℕ) (arrivals : List (Arrival C)) (answers : AnswersView) (reads : List (ℕ × MetersView))
     (links : List (C × Held)) (actions : List (Action C)) where
   abbrev v : DriverView C S
-  v = seen node pace greeting cooldown latest next arrivals answers reads links actions
+  v = seen node pace greeting cooldown dial latest next arrivals answers reads links actions
 
   module _ (longest n : ℕ) (p : C) (owed : ℕ) (head : List ℕ) (size : ℕ) (t : Duration) (after : latest ≤ as_nanos t) where
     abbrev Found : Kind → Type 0
@@ -123,24 +127,26 @@ module _ {C S : Type 0} (cmp : C → C → Ordering) (wire : Wire C S) (node : N
     -- .. and by its kind
     paces : (k : Kind) (f : Found k) (outcome : Outcome C S) → ((given : Setup C S) (pace2 : Pace) (h : List (Happening C S)) →
         DriverStandsAt (base_of cmp wire given pace2) h v → ComesOfKind pace2 h n (as_nanos t) k (looked_of head size) outcome) →
-        Paces cmp wire node pace greeting cooldown latest next arrivals answers reads links actions n t f.held (OfHead longest head size) outcome
-    paces k f outcome comes given pace2 h at =
-        subst (λ x. ComesOfKind pace2 h n (as_nanos t) x (looked_of head size) outcome)
-        (f.kind_is ∙ ap (λ (q : Pace). kind_of longest q.channels.items node.limits (is_open f.held.phase) head size) at.pace
-        ∙ ap (λ l. kind_of longest pace2.channels.items l (is_open f.held.phase) head size) at.node.limits)
-        (comes given pace2 h at)
+        Paces cmp wire node pace greeting cooldown dial latest next arrivals answers reads links actions n t f.held (OfHead longest head size) outcome
+    paces k f outcome comes given pace2 h at = (
+      f.reached,
+      subst (λ x. ComesOfKind pace2 h n (as_nanos t) x (looked_of head size) outcome)
+          (f.kind_is ∙ ap (λ (q : Pace). kind_of longest q.channels.items node.limits (is_open f.held.phase) head size) at.pace
+          ∙ ap (λ l. kind_of longest pace2.channels.items l (is_open f.held.phase) head size) at.node.limits)
+          (comes given pace2 h at),
+    )
 
     -- a rule is broken
-    pub breaks_on : (k : Kind) (x : Breach) (blocked : Option Bool) (node2 : NodeView C S) (links2 : List (C × Held)) (actions2 : List (Action C)) →
-        Found k → is_of_head {C = C} {S = S} (Outcome.Breaks x blocked) ≡ true →
+    pub breaks_on : (k : Kind) (x : Breach) (blocked : Option Bool) (node2 : NodeView C S) (dial2 : NextDial) (links2 : List (C × Held)) (actions2 : List (Action C)) →
+        IsAtOnce dial dial2 → Found k → is_of_head {C = C} {S = S} (Outcome.Breaks x blocked) ≡ true →
         ((pace2 : Pace) (h : List (Happening C S)) → ComesOfKind pace2 h n (as_nanos t) k (looked_of head size) (Outcome.Breaks x blocked)) →
         MakesFor cmp p t (Outcome.Breaks x blocked) node node2 → IsBlocked cmp p (as_nanos t) blocked node →
         Follows {S = S} cmp n p t owed (Outcome.Breaks x blocked) links links2 actions actions2 →
         Does cmp wire (Happening.Heard n p t owed (OfHead longest head size) (Outcome.Breaks x blocked)) v
-        (seen node2 pace greeting cooldown (as_nanos t) next arrivals answers reads links2 actions2)
-    breaks_on k x blocked node2 links2 actions2 f may comes made blocks follows =
-        hears cmp wire node pace greeting cooldown latest next arrivals answers reads links actions n p f.held t owed
-        (OfHead longest head size) (Outcome.Breaks x blocked) node2 links2 actions2 f.linked f.number after
+        (seen node2 pace greeting cooldown dial2 (as_nanos t) next arrivals answers reads links2 actions2)
+    breaks_on k x blocked node2 dial2 links2 actions2 once f may comes made blocks follows =
+        hears cmp wire node pace greeting cooldown dial latest next arrivals answers reads links actions n p f.held t owed
+        (OfHead longest head size) (Outcome.Breaks x blocked) node2 dial2 links2 actions2 tt (inr once) f.linked f.number after
         (outs k f (Outcome.Breaks x blocked) may) (paces k f (Outcome.Breaks x blocked) (λ given pace2 h at. comes pace2 h)) (sym f.owed_is)
         (blocked_done cmp wire node p t x blocked blocks) made (λ j place. refl) follows tt
 
@@ -148,26 +154,26 @@ module _ {C S : Type 0} (cmp : C → C → Ordering) (wire : Wire C S) (node : N
     pub lacks_on : (links2 : List (C × Held)) (actions2 : List (Action C)) → Found kind.NoChannel →
         Follows {S = S} cmp n p t owed Outcome.LacksChannel links links2 actions actions2 →
         Does cmp wire (Happening.Heard n p t owed (OfHead longest head size) Outcome.LacksChannel) v
-        (seen node pace greeting cooldown (as_nanos t) next arrivals answers reads links2 actions2)
-    lacks_on links2 actions2 f follows = hears cmp wire node pace greeting cooldown latest next arrivals answers reads links actions n p f.held t owed
-        (OfHead longest head size) Outcome.LacksChannel node links2 actions2 f.linked f.number after
+        (seen node pace greeting cooldown dial (as_nanos t) next arrivals answers reads links2 actions2)
+    lacks_on links2 actions2 f follows = hears cmp wire node pace greeting cooldown dial latest next arrivals answers reads links actions n p f.held t owed
+        (OfHead longest head size) Outcome.LacksChannel node dial links2 actions2 tt (inl (refl, refl)) f.linked f.number after
         (outs kind.NoChannel f Outcome.LacksChannel refl) (paces kind.NoChannel f Outcome.LacksChannel (λ given pace2 h at. tt)) (sym f.owed_is)
         (λ given calls at. tt) unmade (λ j place. refl) follows tt
 
     -- a first frame may be read
     pub free_on : (links2 : List (C × Held)) (actions2 : List (Action C)) → Found kind.Greeting → KeptAs (allowing (looked_of head size)) links2 →
-        length links2 ≡ length links → actions2 ≡ actions →
+        ((way : Direction) → count_of way links2 ≡ count_of way links) → actions2 ≡ actions →
         Does cmp wire (Happening.Heard n p t owed (OfHead longest head size) (Outcome.Reads kind.Greeting (looked_of head size))) v
-        (seen node pace greeting cooldown (as_nanos t) next arrivals answers reads links2 actions2)
+        (seen node pace greeting cooldown dial (as_nanos t) next arrivals answers reads links2 actions2)
     free_on links2 actions2 f kept count same =
         let outcome : Outcome C S = Outcome.Reads kind.Greeting (looked_of head size) in
-        hears_as cmp wire node pace greeting cooldown latest next arrivals answers reads links actions n p f.held t owed
-        (OfHead longest head size) outcome node reads links2 actions2 f.linked f.number after
+        hears_as cmp wire node pace greeting cooldown dial latest next arrivals answers reads links actions n p f.held t owed
+        (OfHead longest head size) outcome node dial reads links2 actions2 tt (inl (refl, refl)) f.linked f.number after
         (outs kind.Greeting f outcome refl) (paces kind.Greeting f outcome (λ given pace2 h at. (refl, refl))) (sym f.owed_is)
         (λ given calls at. tt) unmade
         (λ given pace2 h at. metered_free pace2 (as_nanos t) n p t owed (OfHead longest head size) (looked_of head size) h reads
         (Standing.reads_at (base_of cmp wire given pace2) h v at (as_nanos t) after))
-        (record { links_are = kept; count = count; said = said_none actions actions2 same }) tt
+        (record { links_are = kept; counts = count; said = said_none actions actions2 same }) tt
 
     -- something is kept of the link, and it has the channel
     pub linked_meters : CmpEqualImpliesEq cmp → DriverStands cmp wire v → (place : Option ℕ) → IfSome place (λ x. x < length pace.channels.items) →
@@ -209,13 +215,13 @@ module _ {C S : Type 0} (cmp : C → C → Ordering) (wire : Wire C S) (node : N
       pub reads_on : (reads2 : List (ℕ × MetersView)) (links2 : List (C × Held)) (actions2 : List (Action C)) (m m2 : MetersView) →
           (f : Found (kind_at_rate place)) → reads_of reads n ≡ Some m → reads_of reads2 n ≡ Some m2 → Takes rate (as_nanos t) place m m2 →
           ((j : ℕ) → (j == n) ≡ false → reads_of reads2 j ≡ reads_of reads j) → KeptAs (allowing (looked_of head size)) links2 →
-          length links2 ≡ length links → actions2 ≡ actions →
+          ((way : Direction) → count_of way links2 ≡ count_of way links) → actions2 ≡ actions →
           Does cmp wire (Happening.Heard n p t owed (OfHead longest head size) (Outcome.Reads (kind_at_rate place) (looked_of head size))) v
-          (seen node pace greeting cooldown (as_nanos t) next arrivals answers reads2 links2 actions2)
+          (seen node pace greeting cooldown dial (as_nanos t) next arrivals answers reads2 links2 actions2)
       reads_on reads2 links2 actions2 m m2 f old new takes others kept count same =
           let outcome : Outcome C S = Outcome.Reads (kind_at_rate place) (looked_of head size) in
-          hears_as cmp wire node pace greeting cooldown latest next arrivals answers reads links actions n p f.held t owed
-          (OfHead longest head size) outcome node reads2 links2 actions2 f.linked f.number after
+          hears_as cmp wire node pace greeting cooldown dial latest next arrivals answers reads links actions n p f.held t owed
+          (OfHead longest head size) outcome node dial reads2 links2 actions2 tt (inl (refl, refl)) f.linked f.number after
           (outs (kind_at_rate place) f outcome refl)
           (paces (kind_at_rate place) f outcome (λ given pace2 h at. by_rate (looked_of head size) outcome pace2 h (
             refl,
@@ -226,27 +232,27 @@ module _ {C S : Type 0} (cmp : C → C → Ordering) (wire : Wire C S) (node : N
           (sym f.owed_is) (λ given calls at. tt) unmade
           (λ given pace2 h at. metered_reads pace2 n p t owed (OfHead longest head size) place (looked_of head size) rate h reads reads2 m m2
           (rated_by given pace2 h at) old new takes others (Standing.reads_at (base_of cmp wire given pace2) h v at (as_nanos t) after))
-          (record { links_are = kept; count = count; said = said_none actions actions2 same }) tt
+          (record { links_are = kept; counts = count; said = said_none actions actions2 same }) tt
 
       -- .. or not yet
       pub delays_on : (next2 : ℕ) (reads2 : List (ℕ × MetersView)) (links2 : List (C × Held)) (actions2 : List (Action C)) (m : MetersView) →
           reads2 ≡ reads →
           (f : Found (kind_at_rate place)) → reads_of reads n ≡ Some m → IsEarly rate (as_nanos t) (kept_in place m) next2 → next2 ≤ max_nanos →
-          KeptAs (hearing t owed None) links2 → length links2 ≡ length links → actions2 ≡ actions →
+          KeptAs (hearing t owed None) links2 → ((way : Direction) → count_of way links2 ≡ count_of way links) → actions2 ≡ actions →
           Does cmp wire (Happening.Heard n p t owed (OfHead longest head size) (Outcome.Delays next2)) v
-          (seen node pace greeting cooldown (as_nanos t) next arrivals answers reads2 links2 actions2)
+          (seen node pace greeting cooldown dial (as_nanos t) next arrivals answers reads2 links2 actions2)
       delays_on next2 reads2 links2 actions2 m unread f old early bound kept count same =
           let outcome : Outcome C S = Outcome.Delays next2 in
           subst (λ rs. Does cmp wire (Happening.Heard n p t owed (OfHead longest head size) outcome) v
-          (seen node pace greeting cooldown (as_nanos t) next arrivals answers rs links2 actions2)) (sym unread)
-          (hears cmp wire node pace greeting cooldown latest next arrivals answers reads links actions n p f.held t owed
-          (OfHead longest head size) outcome node links2 actions2 f.linked f.number after
+          (seen node pace greeting cooldown dial (as_nanos t) next arrivals answers rs links2 actions2)) (sym unread)
+          (hears cmp wire node pace greeting cooldown dial latest next arrivals answers reads links actions n p f.held t owed
+          (OfHead longest head size) outcome node dial links2 actions2 tt (inl (refl, refl)) f.linked f.number after
           (outs (kind_at_rate place) f outcome refl)
           (paces (kind_at_rate place) f outcome (λ given pace2 h at. by_rate (looked_of head size) outcome pace2 h
           (subst (λ o. IsSomeAnd o (λ rate. IsDelayed rate (frames_read n place h) (as_nanos t) next2)) (sym (rated_by given pace2 h at))
           (delayed given pace2 h at))))
           (sym f.owed_is) (λ given calls at. tt) unmade (λ j place. refl)
-          (record { links_are = kept; count = count; said = said_none actions actions2 same }) tt)
+          (record { links_are = kept; counts = count; said = said_none actions actions2 same }) tt)
         where
           later : (now : ℕ) → as_nanos t ≤ now → latest ≤ now
           later now is = omega (arith, after, is)

@@ -1,6 +1,6 @@
 -- How a message that is said makes a driver stand, by its parts.
-use Rattle.std.proofs.Common.{◌≡◌, Bool, true, false, ℕ, ◌==◌, ◌+◌, ◌≤◌, cond, List, [], ◌∷◌, ◌++◌, Option, Some, None, refl, sym, ◌∙◌, ap, subst, arith}
-use Rattle.std.specs.Prelude.{if◌then◌else◌, option_map, length, max, slice_get, IfSome}
+use Rattle.std.proofs.Common.{◌≡◌, true, false, ℕ, ◌==◌, ◌+◌, ◌≤◌, cond, List, ◌∷◌, Option, Some, None, refl, sym, ◌∙◌, ap, subst, arith}
+use Rattle.std.specs.Prelude.{if◌then◌else◌, option_map, length, IfSome}
 use Rattle.std.specs.BTreeMap.{is_at}
 use Rattle.std.specs.Duration.{as_nanos}
 use Rattle.std.specs.List.{count_by}
@@ -15,16 +15,18 @@ use Rattle.p2p_driver.specs.Actions.{is_of_link}
 use Rattle.p2p_driver.specs.Answers.{AnswersView, IsAllowedAt, IsKeptAt}
 use Rattle.p2p_driver.specs.Drivers.{DriverView, DriverStandsAt, DriverStands, IsSpoken, Does, Base, seen, base_of}
 use Rattle.p2p_driver.specs.Happenings.{Happening, said, taken}
-use Rattle.p2p_driver.specs.Links.{link_of, is_open, saying, has_room}
+use Rattle.p2p_driver.specs.Links.{link_of, count_of, is_open, saying, has_room}
 use Rattle.p2p_driver.specs.Meters.{MetersView, IsEarly, MayTwice}
 use Rattle.p2p_driver.specs.Reading.{rate_at, read_in, since_in, frames_read, IsMetered}
-use Rattle.p2p_driver.specs.Reads.{reads_of, kept_in, HasPlace, Takes}
+use Rattle.p2p_driver.specs.Reads.{reads_of, kept_in, Takes}
 use Rattle.p2p_driver.specs.declared.actions.Action.{Action}
 use Rattle.p2p_driver.specs.declared.arrivals.Arrival.{Arrival}
+use Rattle.p2p_driver.specs.declared.links.Direction.{Direction}
 use Rattle.p2p_driver.specs.declared.links.Held.{Held}
 use Rattle.p2p_driver.specs.declared.pace.Pace.{Pace}
+use Rattle.p2p_driver.specs.declared.next_dial.NextDial.{NextDial}
 use Rattle.p2p_driver.specs.declared.rate.Rate.{Rate}
-use Rattle.p2p_driver.proofs.DrivingReads.{of_some, the_one}
+use Rattle.p2p_driver.proofs.DrivingReads.{of_some}
 use Rattle.p2p_driver.proofs.Kept.{kept_later}
 use Rattle.p2p_driver.proofs.Lasting.{metered_by}
 use Rattle.p2p_driver.proofs.Metered.{metered_says}
@@ -38,12 +40,12 @@ not_early rate now kept happened None early is may = refl
 not_early rate now kept happened (Some next) early is may = absurd (early.refused happened is (allowed_once rate happened now (may happened is)))
 
 module _ {C S : Type 0} (cmp : C → C → Ordering) (wire : Wire C S) (node : NodeView C S) (pace : Pace)
-    (greeting : List ℕ) (cooldown latest next : ℕ) (arrivals : List (Arrival C)) (answers : AnswersView) (reads : List (ℕ × MetersView))
+    (greeting : List ℕ) (cooldown : ℕ) (dial : NextDial) (latest next : ℕ) (arrivals : List (Arrival C)) (answers : AnswersView) (reads : List (ℕ × MetersView))
     (links : List (C × Held)) (actions : List (Action C)) (exact : CmpEqualImpliesEq cmp) (n : ℕ) (p : C) (held : Held)
     (linked : link_of cmp links p ≡ Some held) (number : held.number ≡ n) (place : ℕ) (rate : Rate) (rated : rate_at pace (Some place) ≡ Some rate)
     (t : Duration) (after : latest ≤ as_nanos t) where
   abbrev v : DriverView C S
-  v = seen node pace greeting cooldown latest next arrivals answers reads links actions
+  v = seen node pace greeting cooldown dial latest next arrivals answers reads links actions
 
   -- what is kept says what was said
   kept_at : (b : Base C S) (h : List (Happening C S)) → b.made.directory.cmp ≡ cmp → DriverStandsAt b h v → CmpEqualImpliesEq b.made.directory.cmp →
@@ -69,8 +71,8 @@ module _ {C S : Type 0} (cmp : C → C → Ordering) (wire : Wire C S) (node : N
       reads_of reads n ≡ Some m → reads_of reads2 n ≡ Some m2 → MayTwice rate (as_nanos t) (kept_in (Some place) m) →
       Takes rate (as_nanos t) (Some place) m m2 → ((j : ℕ) → (j == n) ≡ false → reads_of reads2 j ≡ reads_of reads j) →
       ((q : C) → link_of cmp links2 q ≡ (if is_at (cmp p) q then option_map (saying (Some t)) (link_of cmp links q) else link_of cmp links q)) →
-      length links2 ≡ length links →
-      Does cmp wire (Happening.Spoken n p t place) v (seen node pace greeting cooldown (as_nanos t) next arrivals answers reads2 links2 actions)
+      ((way : Direction) → count_of way links2 ≡ count_of way links) →
+      Does cmp wire (Happening.Spoken n p t place) v (seen node pace greeting cooldown dial (as_nanos t) next arrivals answers reads2 links2 actions)
   says_on m m2 reads2 links2 opens idle room behind old new may takes others tied same = record {
     goes = λ given pace2 h at.
         let b = base_of cmp wire given pace2 in

@@ -1,5 +1,5 @@
 -- How verdicts on a frame that waits make a driver stand, by its parts.
-use Rattle.std.proofs.Common.{◌≡◌, Bool, true, false, ℕ, ◌≤◌, List, [], ◌∷◌, Option, Some, None, refl, sym, ◌∙◌, ap, subst}
+use Rattle.std.proofs.Common.{inl, inr, ◌≡◌, Bool, true, false, ℕ, ◌≤◌, List, [], ◌∷◌, Option, Some, None, refl, sym, ◌∙◌, ap, subst}
 use Rattle.std.specs.Prelude.{IfSome, length, if◌then◌else◌, option_map, Result, Ok, Err}
 use Rattle.p2p_discovery.specs.declared.codec.error.CodecError.{CodecError}
 use Rattle.std.specs.BTreeMap.{is_at}
@@ -21,11 +21,11 @@ use Rattle.p2p_directory.specs.Received.{Wire}
 use Rattle.p2p_driver.specs.Admissions.{AnswersVerdicts}
 use Rattle.p2p_driver.specs.Answers.{AnswersView}
 use Rattle.p2p_driver.specs.Drivers.{DriverView, DriverStands, Does, seen, base_of}
-use Rattle.p2p_driver.specs.Frames.{Outcome, Spells, IsWaiting, refusal_of, is_early, owed_after}
+use Rattle.p2p_driver.specs.Frames.{Outcome, Spells, IsWaiting, refusal_of, is_early, owed_after, IsAsDialer}
 use Rattle.p2p_driver.specs.Frames.Cause.{OfVerdicts}
-use Rattle.p2p_driver.specs.Happenings.{Happening, calls_of, said_as, said_with}
+use Rattle.p2p_driver.specs.Happenings.{Happening, calls_of, said_as, said_with, calls_for}
 use Rattle.p2p_driver.specs.Hearing.{Follows, IsJudged}
-use Rattle.p2p_driver.specs.Links.{link_of, hearing, has_room, has_room_at}
+use Rattle.p2p_driver.specs.Links.{link_of, count_of, hearing, has_room, has_room_at, is_dialer}
 use Rattle.p2p_driver.specs.Meters.{MetersView}
 use Rattle.p2p_driver.specs.Reading.{read_by}
 use Rattle.p2p_driver.specs.Steps.{Makes, MakesFor, MayConnect, IsDone, IsBlocked}
@@ -33,14 +33,17 @@ use Rattle.p2p_driver.specs.declared.actions.Action.{Action}
 use Rattle.p2p_driver.specs.declared.actions.Breach.TheVariants as breach
 use Rattle.p2p_driver.specs.declared.admission.Misjudged.{Misjudged}
 use Rattle.p2p_driver.specs.declared.arrivals.Arrival.{Arrival}
+use Rattle.p2p_driver.specs.declared.links.Direction.{Direction}
 use Rattle.p2p_driver.specs.declared.links.Held.{Held}
 use Rattle.p2p_driver.specs.declared.links.Phase.{Phase}
 use Rattle.p2p_driver.specs.declared.links.Phase.TheVariants as phase
 use Rattle.p2p_driver.specs.declared.links.Waiting.{Waiting}
 use Rattle.p2p_driver.specs.declared.pace.Pace.{Pace}
+use Rattle.p2p_driver.specs.declared.next_dial.NextDial.{NextDial}
 use Rattle.p2p_driver.specs.Questions.{IsNextQuestion}
 use Rattle.p2p_driver.specs.declared.questions.Question.{Question}
 use Rattle.p2p_driver.proofs.Driving.{slotted}
+use Rattle.p2p_driver.proofs.Standing.{IsAtOnce, IsSought}
 use Rattle.p2p_driver.proofs.DrivingFrames.{hears, room_on, judged_outs, blocked_done, said_none, unchanged, blocks_from, makes_from}
 use Rattle.p2p_driver.proofs.Reserved.{reserved_anywhere}
 use Rattle.p2p_driver.proofs.Status.{connects_by}
@@ -124,43 +127,44 @@ module _ {C S : Type 0} (cmp : C → C → Ordering) (wire : Wire C S) (exact : 
 
 -- WHAT A DRIVER DOES OF VERDICTS
 module _ {C S : Type 0} (cmp : C → C → Ordering) (wire : Wire C S) (node : NodeView C S) (pace : Pace)
-    (greeting : List ℕ) (cooldown latest next : ℕ) (arrivals : List (Arrival C)) (answers : AnswersView) (reads : List (ℕ × MetersView))
+    (greeting : List ℕ) (cooldown : ℕ) (dial : NextDial) (latest next : ℕ) (arrivals : List (Arrival C)) (answers : AnswersView) (reads : List (ℕ × MetersView))
     (links : List (C × Held)) (actions : List (Action C)) (n : ℕ) (p : C) (held : Held) (w : Waiting) (verdicts : List Bool) (t : Duration)
     (after : latest ≤ as_nanos t) (linked : link_of cmp links p ≡ Some held) (number : held.number ≡ n) (waits : held.waiting ≡ Some w)
     (may : IsWaiting cmp wire node.limits (judge_of cmp wire.verifies node.verifier) held.phase p w) (counted : length verdicts ≡ w.count) where
   abbrev stood : DriverView C S
-  stood = seen node pace greeting cooldown latest next arrivals answers reads links actions
+  stood = seen node pace greeting cooldown dial latest next arrivals answers reads links actions
 
-  abbrev left : NodeView C S → List (C × Held) → List (Action C) → DriverView C S
-  left node2 links2 actions2 = seen node2 pace greeting cooldown (as_nanos t) next arrivals answers reads links2 actions2
+  abbrev left : NodeView C S → NextDial → List (C × Held) → List (Action C) → DriverView C S
+  left node2 dial2 links2 actions2 = seen node2 pace greeting cooldown dial2 (as_nanos t) next arrivals answers reads links2 actions2
 
   abbrev judge : Judge C S
   judge = judge_of cmp wire.verifies node.verifier
 
   -- such an outcome comes of it
-  does : (owed : ℕ) (outcome : Outcome C S) (node2 : NodeView C S) (links2 : List (C × Held)) (actions2 : List (Action C)) →
-      IsJudged cmp wire w verdicts outcome node → owed ≡ owed_after held.phase outcome pace.owed held.owed →
+  does : (owed : ℕ) (outcome : Outcome C S) (node2 : NodeView C S) (dial2 : NextDial) (links2 : List (C × Held)) (actions2 : List (Action C)) →
+      IsAsDialer (is_dialer held) outcome → IsSought (calls_for p t outcome) dial dial2 → IsJudged cmp wire w verdicts outcome node → owed ≡ owed_after held.phase outcome pace.owed held.owed →
       AtEach cmp node (λ m calls. IsDone wire m pace.refresh held.asked calls p t outcome) → MakesFor cmp p t outcome node node2 →
       ((j : ℕ) (place : Option ℕ) → read_by j place (Happening.Heard n p t owed (OfVerdicts verdicts) outcome) ≡ []) →
       Follows cmp n p t owed outcome links links2 actions actions2 → IfSome (said_as t outcome) (λ at. has_room pace.queue held ≡ true) →
-      Does cmp wire (Happening.Heard n p t owed (OfVerdicts verdicts) outcome) stood (left node2 links2 actions2)
-  does owed outcome node2 links2 actions2 comes owes done made unread follows room =
-      hears cmp wire node pace greeting cooldown latest next arrivals answers reads links actions n p held t owed
-      (OfVerdicts verdicts) outcome node2 links2 actions2 linked number after
+      Does cmp wire (Happening.Heard n p t owed (OfVerdicts verdicts) outcome) stood (left node2 dial2 links2 actions2)
+  does owed outcome node2 dial2 links2 actions2 dials sought comes owes done made unread follows room =
+      hears cmp wire node pace greeting cooldown dial latest next arrivals answers reads links actions n p held t owed
+      (OfVerdicts verdicts) outcome node2 dial2 links2 actions2 dials sought linked number after
       (judged_outs cmp wire stood.node p held w verdicts outcome (not_closing cmp wire node.limits judge held.phase p w may) waits counted comes)
       (λ given pace2 h at. tt) owes done made unread follows room
 
   -- the peer has greeted
-  pub greets_by : (info : Info C S) (question : Option Question) (node1 node2 : NodeView C S) (links2 : List (C × Held)) (actions2 : List (Action C)) →
-      IsJudged cmp wire w verdicts (Outcome.Greets info question) node → Makes cmp (Update (info ∷ []) ∷ []) node node1 →
-      Makes cmp (Connect p false ∷ []) node1 node2 → IfSome question (λ question. IsNextQuestion cmp wire pace.refresh held.asked question node2) →
+  pub greets_by : (dialer : Bool) (info : Info C S) (question : Option Question) (node1 node2 : NodeView C S) (dial2 : NextDial) (links2 : List (C × Held)) (actions2 : List (Action C)) →
+      IsAtOnce dial dial2 → dialer ≡ is_dialer held →
+      IsJudged cmp wire w verdicts (Outcome.Greets dialer info question) node → Makes cmp (Update (info ∷ []) ∷ []) node node1 →
+      Makes cmp (Connect p dialer ∷ []) node1 node2 → IfSome question (λ question. IsNextQuestion cmp wire pace.refresh held.asked question node2) →
       IfSome question (λ question. has_room_at pace.queue (link_of cmp links p) ≡ true) →
-      Follows cmp n p t (owed_after phase.Greeting (Outcome.Greets info question) pace.owed held.owed) (Outcome.Greets info question) links links2 actions actions2 →
-      Does cmp wire (Happening.Heard n p t (owed_after phase.Greeting (Outcome.Greets info question) pace.owed held.owed) (OfVerdicts verdicts)
-      (Outcome.Greets info question)) stood (left node2 links2 actions2)
-  greets_by info question node1 node2 links2 actions2 comes updated connected asked room follows =
-      does (owed_after phase.Greeting (Outcome.Greets info question) pace.owed held.owed) (Outcome.Greets info question) node2 links2 actions2 comes
-      (ap (λ ph. owed_after ph (Outcome.Greets info question) pace.owed held.owed)
+      Follows cmp n p t (owed_after phase.Greeting (Outcome.Greets dialer info question) pace.owed held.owed) (Outcome.Greets dialer info question) links links2 actions actions2 →
+      Does cmp wire (Happening.Heard n p t (owed_after phase.Greeting (Outcome.Greets dialer info question) pace.owed held.owed) (OfVerdicts verdicts)
+      (Outcome.Greets dialer info question)) stood (left node2 dial2 links2 actions2)
+  greets_by dialer info question node1 node2 dial2 links2 actions2 once dials comes updated connected asked room follows =
+      does (owed_after phase.Greeting (Outcome.Greets dialer info question) pace.owed held.owed) (Outcome.Greets dialer info question) node2 dial2 links2 actions2 dials (inr once) comes
+      (ap (λ ph. owed_after ph (Outcome.Greets dialer info question) pace.owed held.owed)
       (sym (greeting_phase cmp wire node.limits judge held.phase p w info may comes.0)))
       (asks question asked) made (λ j place. refl) follows (said_if question (room_on cmp pace.queue p links held linked question room))
     where
@@ -168,23 +172,24 @@ module _ {C S : Type 0} (cmp : C → C → Ordering) (wire : Wire C S) (node : N
       said_if None is = tt
       said_if (Some q) is = is
 
-      made : MakesFor cmp p t (Outcome.Greets info question) node node2
+      made : MakesFor cmp p t (Outcome.Greets dialer info question) node node2
       made given calls at = connected given (Update (info ∷ []) ∷ calls) (updated given calls at)
 
       asks : (q : Option Question) → IfSome q (λ question. IsNextQuestion cmp wire pace.refresh held.asked question node2) →
-          AtEach cmp node (λ m calls. IsDone wire m pace.refresh held.asked calls p t (Outcome.Greets info q))
+          AtEach cmp node (λ m calls. IsDone wire m pace.refresh held.asked calls p t (Outcome.Greets dialer info q))
       asks None is given calls at = tt
-      asks (Some question) is given calls at = is given (Connect p false ∷ Update (info ∷ []) ∷ calls)
+      asks (Some question) is given calls at = is given (Connect p dialer ∷ Update (info ∷ []) ∷ calls)
           (connected given (Update (info ∷ []) ∷ calls) (updated given calls at))
 
   -- infos are applied
-  pub takes_by : (infos : List (Info C S)) (node2 : NodeView C S) (links2 : List (C × Held)) (actions2 : List (Action C)) →
+  pub takes_by : (infos : List (Info C S)) (node2 : NodeView C S) (dial2 : NextDial) (links2 : List (C × Held)) (actions2 : List (Action C)) →
+      IsAtOnce dial dial2 →
       IsJudged cmp wire w verdicts (Outcome.Takes infos) node → Makes cmp (Update infos ∷ []) node node2 →
       ((q : C) → link_of cmp links2 q ≡ (if is_at (cmp p) q then option_map (hearing t held.owed None) (link_of cmp links q) else link_of cmp links q)) →
-      length links2 ≡ length links → actions2 ≡ actions →
-      Does cmp wire (Happening.Heard n p t held.owed (OfVerdicts verdicts) (Outcome.Takes infos)) stood (left node2 links2 actions2)
-  takes_by infos node2 links2 actions2 comes updated kept count same = does held.owed (Outcome.Takes infos) node2 links2 actions2 comes refl
-      (λ given calls at. tt) updated (λ j place. refl) (record { links_are = kept; count = count; said = said_none actions actions2 same }) tt
+      ((way : Direction) → count_of way links2 ≡ count_of way links) → actions2 ≡ actions →
+      Does cmp wire (Happening.Heard n p t held.owed (OfVerdicts verdicts) (Outcome.Takes infos)) stood (left node2 dial2 links2 actions2)
+  takes_by infos node2 dial2 links2 actions2 once comes updated kept count same = does held.owed (Outcome.Takes infos) node2 dial2 links2 actions2 tt (inr once) comes refl
+      (λ given calls at. tt) updated (λ j place. refl) (record { links_are = kept; counts = count; said = said_none actions actions2 same }) tt
 
   -- what a refusal says of what waits
   abbrev pub IsRefusedFor : Error → Type 0
@@ -194,16 +199,16 @@ module _ {C S : Type 0} (cmp : C → C → Ordering) (wire : Wire C S) (node : N
   -- one is of the future
   pub early_by : (e : Error) (node2 : NodeView C S) (links2 : List (C × Held)) (actions2 : List (Action C)) → IsRefusedFor e → is_early e ≡ true → node2 ≡ node →
       Follows {S = S} cmp n p t held.owed Outcome.IsEarly links links2 actions actions2 →
-      Does cmp wire (Happening.Heard n p t held.owed (OfVerdicts verdicts) Outcome.IsEarly) stood (left node2 links2 actions2)
-  early_by e node2 links2 actions2 refused early same follows = does held.owed Outcome.IsEarly node2 links2 actions2
+      Does cmp wire (Happening.Heard n p t held.owed (OfVerdicts verdicts) Outcome.IsEarly) stood (left node2 dial links2 actions2)
+  early_by e node2 links2 actions2 refused early same follows = does held.owed Outcome.IsEarly node2 dial links2 actions2 tt (inl (refl, refl))
       (refused.0, refused.1, early_is e _ refused.2 early) refl (λ given calls at. tt) (unchanged cmp node node2 same) (λ j place. refl) follows tt
 
   -- another one is refused
-  pub refuses_by : (e : Error) (blocked : Option Bool) (node1 node2 : NodeView C S) (links2 : List (C × Held)) (actions2 : List (Action C)) → IsRefusedFor e → is_early e ≡ false →
+  pub refuses_by : (e : Error) (blocked : Option Bool) (node1 node2 : NodeView C S) (dial2 : NextDial) (links2 : List (C × Held)) (actions2 : List (Action C)) → IsAtOnce dial dial2 → IsRefusedFor e → is_early e ≡ false →
       node1 ≡ node → MakesFor {S = S} cmp p t (Outcome.Breaks (breach.Invalid e) blocked) node1 node2 → IsBlocked cmp p (as_nanos t) blocked node1 →
       Follows {S = S} cmp n p t held.owed (Outcome.Breaks (breach.Invalid e) blocked) links links2 actions actions2 →
-      Does cmp wire (Happening.Heard n p t held.owed (OfVerdicts verdicts) (Outcome.Breaks (breach.Invalid e) blocked)) stood (left node2 links2 actions2)
-  refuses_by e blocked node1 node2 links2 actions2 refused early same made blocks follows =
-      does held.owed (Outcome.Breaks (breach.Invalid e) blocked) node2 links2 actions2 (refused.0, refused.1, (refused.2, early)) refl
+      Does cmp wire (Happening.Heard n p t held.owed (OfVerdicts verdicts) (Outcome.Breaks (breach.Invalid e) blocked)) stood (left node2 dial2 links2 actions2)
+  refuses_by e blocked node1 node2 dial2 links2 actions2 once refused early same made blocks follows =
+      does held.owed (Outcome.Breaks (breach.Invalid e) blocked) node2 dial2 links2 actions2 tt (inr once) (refused.0, refused.1, (refused.2, early)) refl
       (blocked_done cmp wire node p t (breach.Invalid e) blocked (blocks_from cmp node1 node p (as_nanos t) blocked same blocks))
       (makes_from cmp node1 node node2 p t (Outcome.Breaks (breach.Invalid e) blocked) same made) (λ j place. refl) follows tt

@@ -1,6 +1,7 @@
 -- Before what is due next, nothing is due, and nothing ends.
 use Rattle.std.proofs.Common.{◌≡◌, ◌<◌, ◌≤◌, ℕ, Bool, true, false, List, ◌∷◌, Option, Some, None, find, refl, sym, ◌∙◌, ap, subst, arith}
-use Rattle.std.specs.Prelude.{if◌then◌else◌, ◌&&◌, IfSome, min, nat_le, option_map}
+use Rattle.std.specs.Prelude.{if◌then◌else◌, ◌&&◌, not, IfSome, min, nat_le, nat_lt, option_map}
+use Rattle.std.proofs.Math.Bool.{and-false}
 use Rattle.std.specs.Duration.{as_nanos}
 use Rattle.std.specs.declared.cmp.Ordering.{Ordering}
 use Rattle.std.proofs.lemmas.Bool.Decides.{nat_tests}
@@ -17,9 +18,11 @@ use Rattle.p2p_directory.proofs.Definitions.Law
 use Rattle.p2p_driver.specs.Arrivals.{has_number, deadline_of, IsLeastDeadline}
 use Rattle.p2p_driver.specs.Drivers.{DriverView}
 use Rattle.p2p_driver.specs.Links.{link_of, is_timed, is_open, is_late, is_to_ask, ask_at, due, next_of, IsLeastDue}
-use Rattle.p2p_driver.specs.Timers.{NoneLate, NoneToAsk, earlier, held_moment, IsNextTimeout}
+use Rattle.p2p_driver.specs.Steps.{dials_by, is_before}
+use Rattle.p2p_driver.specs.Timers.{NoneLate, NoneToAsk, NoneToDial, earlier, held_moment, dial_at, dial_due, IsNextTimeout}
 use Rattle.p2p_driver.specs.declared.arrivals.Arrival.{Arrival}
 use Rattle.p2p_driver.specs.declared.links.Held.{Held}
+use Rattle.p2p_driver.specs.declared.pace.Pace.{Pace}
 use Rattle.p2p_driver.specs.declared.links.Phase.{Phase}
 use Rattle.p2p_driver.specs.declared.links.Phase.TheVariants as phase
 use Rattle.p2p_driver.proofs.Due.{found_at}
@@ -59,8 +62,8 @@ each_stream t first handshake xs (Some least) is later n a at = let found = foun
     let low = is.0 found.0 a found.1 in omega (arith, later, low)
 
 -- of a link whose moment is later nothing is due
-module _ (greeting silence tick t : ℕ) (held : Held) where
-  nothing_due : t < next_of greeting silence tick held → (is_late greeting silence t held ≡ false) × (is_to_ask tick t held ≡ false)
+module _ (pace : Pace) (t : ℕ) (held : Held) where
+  nothing_due : t < next_of pace held → (is_late pace t held ≡ false) × (is_to_ask (as_nanos pace.tick) t held ≡ false)
   nothing_due later = go held.phase later
     where
       first : (a b : ℕ) → t < min a b → t < a
@@ -69,44 +72,48 @@ module _ (greeting silence tick t : ℕ) (held : Held) where
       second : (a b : ℕ) → t < min a b → t < b
       second a b less = grind (arith)
 
-      go : (ph : Phase) → t < (if is_open ph then min (due greeting silence held) (ask_at tick held) else due greeting silence held) →
-          ((is_timed ph && nat_le (due greeting silence held) t) ≡ false) × ((is_open ph && nat_le (ask_at tick held) t) ≡ false)
-      go phase.Greeting later = (not_yet (due greeting silence held) t later, refl)
+      go : (ph : Phase) → t < (if is_open ph then min (due pace held) (ask_at (as_nanos pace.tick) held) else due pace held) →
+          ((is_timed ph && nat_le (due pace held) t) ≡ false) × ((is_open ph && nat_le (ask_at (as_nanos pace.tick) held) t) ≡ false)
+      go phase.Greeting later = (not_yet (due pace held) t later, refl)
       go phase.Open later = (
-        not_yet (due greeting silence held) t (first (due greeting silence held) (ask_at tick held) later),
-        not_yet (ask_at tick held) t (second (due greeting silence held) (ask_at tick held) later),
+        not_yet (due pace held) t (first (due pace held) (ask_at (as_nanos pace.tick) held) later),
+        not_yet (ask_at (as_nanos pace.tick) held) t (second (due pace held) (ask_at (as_nanos pace.tick) held) later),
       )
       go phase.Closing later = (refl, refl)
 
-  untimed : is_timed held.phase ≡ false → (is_late greeting silence t held ≡ false) × (is_to_ask tick t held ≡ false)
+  untimed : is_timed held.phase ≡ false → (is_late pace t held ≡ false) × (is_to_ask (as_nanos pace.tick) t held ≡ false)
   untimed is = go held.phase is
     where
       go : (ph : Phase) → is_timed ph ≡ false →
-          ((is_timed ph && nat_le (due greeting silence held) t) ≡ false) × ((is_open ph && nat_le (ask_at tick held) t) ≡ false)
+          ((is_timed ph && nat_le (due pace held) t) ≡ false) × ((is_open ph && nat_le (ask_at (as_nanos pace.tick) held) t) ≡ false)
       go phase.Greeting is = absurd cc
       go phase.Open is = absurd cc
       go phase.Closing is = (refl, refl)
 
 module _ {C S : Type 0} (cmp : C → C → Ordering) (t : ℕ) (v : DriverView C S) (next : Option ℕ) (is : IsNextTimeout cmp v next) (later : IsLater t next) where
   -- what is due of each kind is later
+  all : IsLater t (held_moment (dial_due v)) × IsLater t (earlier (earlier (held_moment is.stream) (held_moment is.link)) (earlier is.block is.cooldown))
+  all = both t (held_moment (dial_due v)) (earlier (earlier (held_moment is.stream) (held_moment is.link)) (earlier is.block is.cooldown))
+      (subst (IsLater t) is.next_is later)
+
   parts : IsLater t (earlier (earlier (held_moment is.stream) (held_moment is.link)) (earlier is.block is.cooldown))
-  parts = subst (IsLater t) is.next_is later
+  parts = all.1
 
   one : IsLater t (earlier (held_moment is.stream) (held_moment is.link)) × IsLater t (earlier is.block is.cooldown)
   one = both t (earlier (held_moment is.stream) (held_moment is.link)) (earlier is.block is.cooldown) parts
 
   of_link : (p : C) (held : Held) → link_of cmp v.links p ≡ Some held →
-      (is_late (as_nanos v.pace.greeting) (as_nanos v.pace.silence) t held ≡ false) × (is_to_ask (as_nanos v.pace.tick) t held ≡ false)
+      (is_late v.pace t held ≡ false) × (is_to_ask (as_nanos v.pace.tick) t held ≡ false)
   of_link p held linked = go is.link is.links (not_held t is.link (both t (held_moment is.stream) (held_moment is.link) one.0).1)
     where
-      by : (b : Bool) → is_timed held.phase ≡ b → (is_timed held.phase ≡ true → t < next_of (as_nanos v.pace.greeting) (as_nanos v.pace.silence) (as_nanos v.pace.tick) held) →
-          (is_late (as_nanos v.pace.greeting) (as_nanos v.pace.silence) t held ≡ false) × (is_to_ask (as_nanos v.pace.tick) t held ≡ false)
-      by true at less = nothing_due (as_nanos v.pace.greeting) (as_nanos v.pace.silence) (as_nanos v.pace.tick) t held (less at)
-      by false at less = untimed (as_nanos v.pace.greeting) (as_nanos v.pace.silence) (as_nanos v.pace.tick) t held at
+      by : (b : Bool) → is_timed held.phase ≡ b → (is_timed held.phase ≡ true → t < next_of v.pace held) →
+          (is_late v.pace t held ≡ false) × (is_to_ask (as_nanos v.pace.tick) t held ≡ false)
+      by true at less = nothing_due v.pace t held (less at)
+      by false at less = untimed v.pace t held at
 
-      go : (least : Option ℕ) → IsLeastDue cmp (next_of (as_nanos v.pace.greeting) (as_nanos v.pace.silence) (as_nanos v.pace.tick)) v.links least → IsLater t least →
-          (is_late (as_nanos v.pace.greeting) (as_nanos v.pace.silence) t held ≡ false) × (is_to_ask (as_nanos v.pace.tick) t held ≡ false)
-      go None none later = untimed (as_nanos v.pace.greeting) (as_nanos v.pace.silence) (as_nanos v.pace.tick) t held (none p held linked)
+      go : (least : Option ℕ) → IsLeastDue cmp (next_of v.pace) v.links least → IsLater t least →
+          (is_late v.pace t held ≡ false) × (is_to_ask (as_nanos v.pace.tick) t held ≡ false)
+      go None none later = untimed v.pace t held (none p held linked)
       go (Some least) low later = by (is_timed held.phase) refl (λ timed. let less = low.0 p held linked timed in omega (arith, later, less))
 
   -- no stream and no link is late
@@ -120,6 +127,19 @@ module _ {C S : Type 0} (cmp : C → C → Ordering) (t : ℕ) (v : DriverView C
   -- no peer is to be asked
   pub none_to_ask : NoneToAsk cmp t v
   none_to_ask = λ p held linked. (of_link p held linked).1
+
+  -- nobody is to be dialled
+  pub none_to_dial : NoneToDial t v
+  none_to_dial = go (dials_by v.pace v.links) refl (dial_at v) (not_held t (dial_due v) all.0)
+    where
+      go : (b : Bool) → dials_by v.pace v.links ≡ b → (at : Option ℕ) → IsLater t (if dials_by v.pace v.links then at else None) →
+          (not (is_before t at) && dials_by v.pace v.links) ≡ false
+      go false is at later = ap (λ x. not (is_before t at) && x) is ∙ and-false (not (is_before t at))
+      go true is None later = refl
+      go true is (Some m) later = ap (λ x. not x && dials_by v.pace v.links) (before m (subst (λ x. IsLater t (if x then Some m else None)) is later))
+        where
+          before : (m : ℕ) → t < m → nat_lt t m ≡ true
+          before m less = grind (arith, nat_tests)
 
   -- no block ends, and no cooldown
   pub no_block : (p : C) (n : ℕ) → unblock_of cmp v.node.directory p ≡ Some n → t < n

@@ -64,26 +64,26 @@ module _ {C S : Type 0} (b : Base C S) where
   Knows cs ph p waiting = (w : Waiting) → waiting ≡ Some w → IsWaiting d.cmp b.wire (standing b cs).limits (standing b cs).judge ph p w
 
   -- who greets does so with an info of its own key
-  own : (cs : List (Call C S)) (p : C) (ph : Phase) (owed : ℕ) (waiting : Option Waiting) (c : Cause)
+  own : (cs : List (Call C S)) (p : C) (ph : Phase) (owed : ℕ) (waiting : Option Waiting) (c : Cause) (dialer : Bool)
       (info : Info C S) (question : Option Question) → Knows cs ph p waiting →
-      IsOutcome d.cmp b.wire (standing b cs) ph owed waiting p c (Outcome.Greets info question) →
+      IsOutcome d.cmp b.wire (standing b cs) ph owed waiting p c (Outcome.Greets dialer info question) →
       same d p info.public_key ≡ true
-  own cs p phase.Greeting owed None (Cause.OfFrame frame wall) info question knows comes = absurd comes
-  own cs p phase.Greeting owed None (Cause.OfVerdicts verdicts) info question knows comes = absurd comes
-  own cs p phase.Greeting owed None (Cause.OfHead longest head size) info question knows comes = absurd cc
-  own cs p phase.Greeting owed (Some w) (Cause.OfHead longest head size) info question knows comes = absurd comes
-  own cs p phase.Greeting owed (Some w) (Cause.OfFrame frame wall) info question knows comes = absurd comes
-  own cs p phase.Greeting owed (Some w) (Cause.OfVerdicts verdicts) info question knows comes =
+  own cs p phase.Greeting owed None (Cause.OfFrame frame wall) dialer info question knows comes = absurd comes
+  own cs p phase.Greeting owed None (Cause.OfVerdicts verdicts) dialer info question knows comes = absurd comes
+  own cs p phase.Greeting owed None (Cause.OfHead longest head size) dialer info question knows comes = absurd cc
+  own cs p phase.Greeting owed (Some w) (Cause.OfHead longest head size) dialer info question knows comes = absurd comes
+  own cs p phase.Greeting owed (Some w) (Cause.OfFrame frame wall) dialer info question knows comes = absurd comes
+  own cs p phase.Greeting owed (Some w) (Cause.OfVerdicts verdicts) dialer info question knows comes =
       let known = knows w refl in
       subst (λ (i : Info C S). same d p i.public_key ≡ true) (ap (info_of info) (sym known.1 ∙ comes.1.0)) known.2
-  own cs p phase.Open owed None (Cause.OfFrame frame wall) info question knows comes = absurd comes.2.3
-  own cs p phase.Open owed None (Cause.OfVerdicts verdicts) info question knows comes = absurd comes
-  own cs p phase.Open owed None (Cause.OfHead longest head size) info question knows comes = absurd cc
-  own cs p phase.Open owed (Some w) (Cause.OfHead longest head size) info question knows comes = absurd comes
-  own cs p phase.Open owed (Some w) (Cause.OfFrame frame wall) info question knows comes = absurd comes
-  own cs p phase.Open owed (Some w) (Cause.OfVerdicts verdicts) info question knows comes =
+  own cs p phase.Open owed None (Cause.OfFrame frame wall) dialer info question knows comes = absurd comes.2.3
+  own cs p phase.Open owed None (Cause.OfVerdicts verdicts) dialer info question knows comes = absurd comes
+  own cs p phase.Open owed None (Cause.OfHead longest head size) dialer info question knows comes = absurd cc
+  own cs p phase.Open owed (Some w) (Cause.OfHead longest head size) dialer info question knows comes = absurd comes
+  own cs p phase.Open owed (Some w) (Cause.OfFrame frame wall) dialer info question knows comes = absurd comes
+  own cs p phase.Open owed (Some w) (Cause.OfVerdicts verdicts) dialer info question knows comes =
       let known = knows w refl in absurd (differ (sym (ap reads_greeting (sym known.1 ∙ comes.1.0))))
-  own cs p phase.Closing owed waiting c info question knows comes = absurd comes
+  own cs p phase.Closing owed waiting c dialer info question knows comes = absurd comes
 
   -- who is served has greeted
   abbrev served_in : List (Call C S) → C → Phase → ℕ → Option Waiting → Cause → Outcome C S → Type 0
@@ -127,7 +127,7 @@ module _ {C S : Type 0} (b : Base C S) where
   served : (cs : List (Call C S)) (p : C) (ph : Phase) (owed : ℕ) (waiting : Option Waiting) (c : Cause)
       (outcome : Outcome C S) → is_served outcome ≡ true → served_in cs p ph owed waiting c outcome
   served cs p ph owed waiting c (Outcome.Waits w) is = absurd cc
-  served cs p ph owed waiting c (Outcome.Greets info question) is = absurd cc
+  served cs p ph owed waiting c (Outcome.Greets dialer info question) is = absurd cc
   served cs p ph owed waiting c (Outcome.Takes infos) is = taken_in cs p ph owed waiting c infos
   served cs p ph owed waiting c (Outcome.Answers reply) is = replied cs p ph owed waiting c reply
   served cs p ph owed waiting c (Outcome.Delivers message) is = delivered cs p ph owed waiting c message
@@ -163,11 +163,11 @@ module _ {C S : Type 0} (b : Base C S) where
     heard_greets : (h : List (Happening C S)) → AreRight b h → (n : ℕ) (q : C) (t : Duration) (owed : ℕ) (c : Cause)
         (outcome : Outcome C S) → IsSomeAnd (link b q h) (IsHeard b h n q t owed c outcome) → (p : C) →
         (is_greeted outcome && same d q p) ≡ true → IsGreetingOf d p (Happening.Heard n q t owed c outcome)
-    heard_greets h right n q t owed c (Outcome.Greets info question) is p greets =
-        let at = came h right n q t owed c (Outcome.Greets info question) is in (
+    heard_greets h right n q t owed c (Outcome.Greets dialer info question) is p greets =
+        let at = came h right n q t owed c (Outcome.Greets dialer info question) is in (
           greets,
           subst (λ r. same d r info.public_key ≡ true) (tells_apart exact q p greets)
-              (own (calls_of h) q at.0.phase at.0.owed at.0.waiting c info question at.2 at.3),
+              (own (calls_of h) q at.0.phase at.0.owed at.0.waiting c dialer info question at.2 at.3),
         )
     heard_greets h right n q t owed c (Outcome.Waits w) is p greets = absurd cc
     heard_greets h right n q t owed c (Outcome.Takes infos) is p greets = absurd cc
@@ -188,7 +188,11 @@ module _ {C S : Type 0} (b : Base C S) where
     greets_own (Happening.Proved n q t draw) h is right p greets = absurd cc
     greets_own (Happening.Unproved n q t why) h is right p greets = absurd cc
     greets_own (Happening.Left n t) h is right p greets = absurd cc
-    greets_own (Happening.Ended n q t) h is right p greets = absurd cc
+    greets_own (Happening.Dialed n q t draw word ingress) h is right p greets = absurd cc
+    greets_own (Happening.Undialed t) h is right p greets = absurd cc
+    greets_own (Happening.Reached n q t) h is right p greets = absurd cc
+    greets_own (Happening.Mistaken n q t) h is right p greets = absurd cc
+    greets_own (Happening.Ended n q t direction) h is right p greets = absurd cc
     greets_own (Happening.SetCame t index primary secondary torn) h is right p greets = absurd cc
     greets_own (Happening.StaleSetCame index primary secondary) h is right p greets = absurd cc
     greets_own (Happening.StreamLate n t) h is right p greets = absurd cc
@@ -224,7 +228,7 @@ module _ {C S : Type 0} (b : Base C S) where
     has_greeted (e ∷ h) right p is = go (opened_by d p e) (last_with (opened_by d p) h)
         (λ greets. greets_own e h right.0 right.2 p greets) (has_greeted h right.2 p) is
       where
-        go : (o : Option (ℕ × Duration)) (found : Option ((ℕ × Duration) × List (Happening C S))) →
+        go : (o : Option (ℕ × Bool × Duration)) (found : Option ((ℕ × Bool × Duration) × List (Happening C S))) →
             (greets_by d p e ≡ true → IsGreetingOf d p e) →
             (list_any (greets_by d p) (since_of found) ≡ true → Greeted p (since_of found)) →
             list_any (greets_by d p) (since_of (found_with o e found)) ≡ true → Greeted p (since_of (found_with o e found))
@@ -236,14 +240,14 @@ module _ {C S : Type 0} (b : Base C S) where
         held.phase ≡ phase.Open → list_any (greets_by d p) (since_began d p h) ≡ true
     open_has_greeted h p held of_p is = go (last_with (opened_by d p) h) of_p
       where
-        at : (found : (ℕ × Duration) × List (Happening C S)) (ended : Bool) →
-            (if ended then None else Some (kept_of d p found.0.0 found.0.1 found.1)) ≡ Some held →
+        at : (found : (ℕ × Bool × Duration) × List (Happening C S)) (ended : Bool) →
+            (if ended then None else Some (kept_of d p found.0.0 found.0.1 found.0.2 found.1)) ≡ Some held →
             list_any (greets_by d p) found.1 ≡ true
         at found true of_p = absurd (no_link held of_p)
         at found false of_p = of_open (list_any (closes_by d p) found.1) (list_any (greets_by d p) found.1)
             (ap (λ (x : Held). x.phase) (some_is of_p) ∙ is)
 
-        go : (found : Option ((ℕ × Duration) × List (Happening C S))) → link_since d p found ≡ Some held →
+        go : (found : Option ((ℕ × Bool × Duration) × List (Happening C S))) → link_since d p found ≡ Some held →
             list_any (greets_by d p) (since_of found) ≡ true
         go None of_p = absurd (no_link held of_p)
         go (Some found) of_p = at found (list_any (ends_by d p) found.1) of_p

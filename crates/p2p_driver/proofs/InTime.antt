@@ -46,7 +46,7 @@ module _ {C S : Type 0} (b : Base C S) where
   heard : (q : C) (t : Duration) (outcome : Outcome C S) (cs : List (Call C S)) → NeverGoBack d (as_nanos t) cs →
       NeverGoBack d (as_nanos t) (calls_for q t outcome ++ cs)
   heard q t (Outcome.Waits waiting) cs before = before
-  heard q t (Outcome.Greets info question) cs before = (at_most (as_nanos t), (at_most (as_nanos t), before))
+  heard q t (Outcome.Greets dialer info question) cs before = (at_most (as_nanos t), (at_most (as_nanos t), before))
   heard q t (Outcome.Takes infos) cs before = (at_most (as_nanos t), before)
   heard q t (Outcome.Answers reply) cs before = before
   heard q t (Outcome.Delivers message) cs before = before
@@ -66,7 +66,12 @@ module _ {C S : Type 0} (b : Base C S) where
   in_time (Happening.Proved n q t draw ∷ h) right = (at_most (as_nanos t), on h (in_time h right.2) (as_nanos t) right.1)
   in_time (Happening.Unproved n q t why ∷ h) right = on h (in_time h right.2) (as_nanos t) right.1
   in_time (Happening.Left n t ∷ h) right = on h (in_time h right.2) (as_nanos t) right.1
-  in_time (Happening.Ended n q t ∷ h) right = (at_most (as_nanos t), on h (in_time h right.2) (as_nanos t) right.1)
+  in_time (Happening.Dialed n q t draw word ingress ∷ h) right =
+      (at_most (as_nanos t), on h (in_time h right.2) (as_nanos t) right.1)
+  in_time (Happening.Undialed t ∷ h) right = on h (in_time h right.2) (as_nanos t) right.1
+  in_time (Happening.Reached n q t ∷ h) right = on h (in_time h right.2) (as_nanos t) right.1
+  in_time (Happening.Mistaken n q t ∷ h) right = on h (in_time h right.2) (as_nanos t) right.1
+  in_time (Happening.Ended n q t direction ∷ h) right = (at_most (as_nanos t), on h (in_time h right.2) (as_nanos t) right.1)
   in_time (Happening.SetCame t index primary secondary torn ∷ h) right =
       (at_most (as_nanos t), on h (in_time h right.2) (as_nanos t) right.1)
   in_time (Happening.StaleSetCame index primary secondary ∷ h) right =

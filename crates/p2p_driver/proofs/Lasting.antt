@@ -15,12 +15,14 @@ use Rattle.p2p_driver.specs.declared.origin.Origin.{Origin}
 use Rattle.p2p_driver.specs.Arrivals.{has_number}
 use Rattle.p2p_driver.specs.Drivers.{DriverView, Base, DriverStandsAt, AreRight, IsLinkOf, link}
 use Rattle.p2p_driver.specs.Happenings.{Happening, latest_at, next_at, stream_at, came_by, opened_by, ends_by}
-use Rattle.p2p_driver.specs.Links.{link_of, link_with}
+use Rattle.p2p_driver.specs.Links.{link_of, link_with, dial_with}
 use Rattle.p2p_driver.specs.Reading.{begins_as, ends_as, IsMetered, IsMeteredIf, IsMeteredSince}
 use Rattle.p2p_driver.specs.Reads.{reads_of}
-use Rattle.p2p_driver.proofs.LinkHistory.{touch_by, link_later, link_opens, ended_link}
+use Rattle.p2p_discovery.specs.declared.types.ingress.Ingress.{Ingress}
+use Rattle.p2p_driver.specs.declared.links.Direction.{Direction}
+use Rattle.p2p_driver.proofs.LinkHistory.{link_dials, touch_by, link_later, link_opens, ended_link}
 use Rattle.p2p_driver.proofs.Numbers.{before, IsOver, still_over, claimed_is_there, number_below, one_number}
-use Rattle.p2p_driver.proofs.StreamHistory.{stream_after, stream_later}
+use Rattle.p2p_driver.proofs.StreamHistory.{stream_after, stream_later, next_rises}
 
 some_is : {A : Type 0} {x y : A} → Some x ≡ Some y → x ≡ y
 some_is e = cc
@@ -96,13 +98,32 @@ module _ {C S : Type 0} (b : Base C S) where
       go false at over = step e h n (ap (λ x. if◌then◌else◌ {A = Option Duration} x (Some t) None) at) (λ below. refl) over is
   began_over (Happening.Unproved m r t why ∷ h) right n is = step (Happening.Unproved m r t why) h n refl (λ below. refl) (began_over h right.2 n) is
   began_over (Happening.Left m t ∷ h) right n is = step (Happening.Left m t) h n refl (λ below. refl) (began_over h right.2 n) is
-  began_over (Happening.Ended m r t ∷ h) right n is = step (Happening.Ended m r t) h n refl (λ below. refl) (began_over h right.2 n) is
+  began_over (Happening.Ended m r t direction ∷ h) right n is = step (Happening.Ended m r t direction) h n refl (λ below. refl) (began_over h right.2 n) is
   began_over (Happening.SetCame t index primary secondary torn ∷ h) right n is =
       step (Happening.SetCame t index primary secondary torn) h n refl (λ below. refl) (began_over h right.2 n) is
   began_over (Happening.StaleSetCame index primary secondary ∷ h) right n is =
       step (Happening.StaleSetCame index primary secondary) h n refl (λ below. refl) (began_over h right.2 n) is
   began_over (Happening.StreamLate m t ∷ h) right n is = step (Happening.StreamLate m t) h n refl (λ below. refl) (began_over h right.2 n) is
   began_over (Happening.LinkLate m r t ∷ h) right n is = step (Happening.LinkLate m r t) h n refl (λ below. refl) (began_over h right.2 n) is
+  began_over (Happening.Dialed m r t draw word ingress ∷ h) right n is = go (m == n) refl (began_over h right.2 n)
+    where
+      e : Happening C S
+      e = Happening.Dialed m r t draw word ingress
+
+      -- no stream has the next number
+      none : (o : Option (Arrival C)) → (is_some o ≡ true → m < next_at h) → stream_after false None o ≡ None
+      none None below = refl
+      none (Some a) below = let less = below refl in let next = right.0.number in absurd (omega (arith, less, next))
+
+      go : (x : Bool) → (m == n) ≡ x → (is_some (last_with (begins_as n) h) ≡ true → IsOver h n) → IsOver (e ∷ h) n
+      go true at over = subst (IsOver (e ∷ h)) (equal m n at) (
+        stream_later m e h refl ∙ none (stream_at m h) (number_below b h right.2 m),
+        (let more = next_rises e h refl in let next = right.0.number in omega (arith, more, next)),
+      )
+      go false at over = step e h n (ap (λ x. if◌then◌else◌ {A = Option Duration} x (Some t) None) at) (λ below. refl) over is
+  began_over (Happening.Undialed t ∷ h) right n is = step (Happening.Undialed t) h n refl (λ below. refl) (began_over h right.2 n) is
+  began_over (Happening.Reached m r t ∷ h) right n is = step (Happening.Reached m r t) h n refl (λ below. refl) (began_over h right.2 n) is
+  began_over (Happening.Mistaken m r t ∷ h) right n is = step (Happening.Mistaken m r t) h n refl (λ below. refl) (began_over h right.2 n) is
   began_over (Happening.Written m r t ∷ h) right n is = step (Happening.Written m r t) h n refl (λ below. refl) (began_over h right.2 n) is
   began_over (Happening.Spoken m r t place ∷ h) right n is = step (Happening.Spoken m r t place) h n refl (λ below. refl) (began_over h right.2 n) is
   began_over (Happening.Heard m r t owed cause outcome ∷ h) right n is =
@@ -114,6 +135,16 @@ module _ {C S : Type 0} (b : Base C S) where
   began_over (Happening.Parted r t ∷ h) right n is = step (Happening.Parted r t) h n refl (λ below. refl) (began_over h right.2 n) is
   began_over (Happening.Passed t ∷ h) right n is = step (Happening.Passed t) h n refl (λ below. refl) (began_over h right.2 n) is
   began_over (Happening.Taken action ∷ h) right n is = step (Happening.Taken action) h n refl (λ below. refl) (began_over h right.2 n) is
+
+  -- nothing is kept of a link with the next number
+  pub unread_next : (h : List (Happening C S)) (v : DriverView C S) → DriverStandsAt b h v → reads_of v.reads v.next ≡ None
+  unread_next h v at = go (last_with (begins_as v.next) h) refl (at.reads v.next)
+    where
+      go : (found : Option (Duration × List (Happening C S))) → last_with (begins_as v.next) h ≡ found →
+          IsMeteredSince b.pace (latest_at h) v.next found (reads_of v.reads v.next) → reads_of v.reads v.next ≡ None
+      go None is kept = kept
+      go (Some found) is kept = let over = began_over h at.right v.next (ap is_some is) in
+          absurd (omega (arith, over.1, at.next))
 
   -- nothing is kept of a link with the number of such a stream
   pub unread_by : (h : List (Happening C S)) (v : DriverView C S) → DriverStandsAt b h v → (n : ℕ) →
@@ -161,16 +192,30 @@ module _ {C S : Type 0} (b : Base C S) where
         go true at is = by held.number true (ap (λ k. m == k) (sym (ap (λ (y : Held). y.number) (some_is is))) ∙ itself m) (λ isnt. absurd cc)
         go false at is = by held.number (m == held.number) refl (λ isnt. last p held is)
 
-    ended : (m : ℕ) (r : C) (t : Duration) (h : List (Happening C S)) → AreRight b h → IsLinkOf b h m r → Last h → Last (Happening.Ended m r t ∷ h)
-    ended m r t h right of_r last p held is = go (same d r p) refl
-        (sym (link_later d p (Happening.Ended m r t) h refl ∙ ended_link (same d r p) (link b p h)) ∙ is)
+    dialed : (m : ℕ) (r : C) (t draw : Duration) (word : ℕ) (ingress : Ingress) (h : List (Happening C S)) → Last h → Last (Happening.Dialed m r t draw word ingress ∷ h)
+    dialed m r t draw word ingress h last p held is = go (same d r p) refl (sym (link_dials d p r m t draw word ingress h) ∙ is)
       where
         e : Happening C S
-        e = Happening.Ended m r t
+        e = Happening.Dialed m r t draw word ingress
 
-        other : (o : Option Held) → link b r h ≡ o → IsSomeAnd o (λ held. held.number ≡ m) → link b p h ≡ Some held → same d r p ≡ false → ¬ (m ≡ held.number)
+        by : (n : ℕ) (x : Bool) → (m == n) ≡ x → (x ≡ false → Lasts n (last_with (begins_as n) h)) → Lasts n (last_with (begins_as n) (e ∷ h))
+        by n true at rest = subst (λ x. Lasts n (found_with (if x then Some t else None) e (last_with (begins_as n) h))) (sym at) refl
+        by n false at rest = lasts_on e n (last_with (begins_as n) h) (ap (λ x. if◌then◌else◌ {A = Option Duration} x (Some t) None) at) refl (rest refl)
+
+        go : (x : Bool) → same d r p ≡ x → (if x then Some (dial_with m t) else link b p h) ≡ Some held → Lasts held.number (last_with (begins_as held.number) (e ∷ h))
+        go true at is = by held.number true (ap (λ k. m == k) (sym (ap (λ (y : Held). y.number) (some_is is))) ∙ itself m) (λ isnt. absurd cc)
+        go false at is = by held.number (m == held.number) refl (λ isnt. last p held is)
+
+    ended : (m : ℕ) (r : C) (t : Duration) (direction : Direction) (h : List (Happening C S)) → AreRight b h → IsLinkOf b h m r direction → Last h → Last (Happening.Ended m r t direction ∷ h)
+    ended m r t direction h right of_r last p held is = go (same d r p) refl
+        (sym (link_later d p (Happening.Ended m r t direction) h refl ∙ ended_link (same d r p) (link b p h)) ∙ is)
+      where
+        e : Happening C S
+        e = Happening.Ended m r t direction
+
+        other : (o : Option Held) → link b r h ≡ o → IsSomeAnd o (λ held. (held.number ≡ m) × (held.direction ≡ direction)) → link b p h ≡ Some held → same d r p ≡ false → ¬ (m ≡ held.number)
         other None at is of_p differ number = is
-        other (Some g) at is of_p differ number = let one = one_number b exact h right r p g held at of_p (is ∙ number) in absurd cc
+        other (Some g) at is of_p differ number = let one = one_number b exact h right r p g held at of_p (is.0 ∙ number) in absurd cc
 
         go : (x : Bool) → same d r p ≡ x → (if x then None else link b p h) ≡ Some held → Lasts held.number (last_with (begins_as held.number) (e ∷ h))
         go true at is = absurd (no_link held is)
@@ -185,13 +230,17 @@ module _ {C S : Type 0} (b : Base C S) where
     lasting (Happening.Proved n r t draw ∷ h) right = opened n r t draw h (lasting h right.2)
     lasting (Happening.Unproved n r t why ∷ h) right = still (Happening.Unproved n r t why) h (λ p. refl) (λ n. refl) (λ n. refl) (lasting h right.2)
     lasting (Happening.Left n t ∷ h) right = still (Happening.Left n t) h (λ p. refl) (λ n. refl) (λ n. refl) (lasting h right.2)
-    lasting (Happening.Ended n r t ∷ h) right = ended n r t h right.2 right.0 (lasting h right.2)
+    lasting (Happening.Ended n r t direction ∷ h) right = ended n r t direction h right.2 right.0 (lasting h right.2)
     lasting (Happening.SetCame t index primary secondary torn ∷ h) right =
         still (Happening.SetCame t index primary secondary torn) h (λ p. refl) (λ n. refl) (λ n. refl) (lasting h right.2)
     lasting (Happening.StaleSetCame index primary secondary ∷ h) right =
         still (Happening.StaleSetCame index primary secondary) h (λ p. refl) (λ n. refl) (λ n. refl) (lasting h right.2)
     lasting (Happening.StreamLate n t ∷ h) right = still (Happening.StreamLate n t) h (λ p. refl) (λ n. refl) (λ n. refl) (lasting h right.2)
     lasting (Happening.LinkLate n r t ∷ h) right = still (Happening.LinkLate n r t) h (λ p. refl) (λ n. refl) (λ n. refl) (lasting h right.2)
+    lasting (Happening.Dialed n r t draw word ingress ∷ h) right = dialed n r t draw word ingress h (lasting h right.2)
+    lasting (Happening.Undialed t ∷ h) right = still (Happening.Undialed t) h (λ p. refl) (λ n. refl) (λ n. refl) (lasting h right.2)
+    lasting (Happening.Reached n r t ∷ h) right = still (Happening.Reached n r t) h (λ p. refl) (λ n. refl) (λ n. refl) (lasting h right.2)
+    lasting (Happening.Mistaken n r t ∷ h) right = still (Happening.Mistaken n r t) h (λ p. refl) (λ n. refl) (λ n. refl) (lasting h right.2)
     lasting (Happening.Written n r t ∷ h) right = still (Happening.Written n r t) h (λ p. refl) (λ n. refl) (λ n. refl) (lasting h right.2)
     lasting (Happening.Spoken n r t place ∷ h) right = still (Happening.Spoken n r t place) h (λ p. refl) (λ n. refl) (λ n. refl) (lasting h right.2)
     lasting (Happening.Heard n r t owed cause outcome ∷ h) right =

@@ -1,19 +1,22 @@
 -- What is due next once a driver has done what was due is later than now.
 use Rattle.std.proofs.Common.{◌≡◌, ◌<◌, ◌≤◌, ℕ, Bool, true, false, List, [], ◌∷◌, ◌++◌, Option, Some, None, find, refl, sym, ◌∙◌, ap, subst, arith}
-use Rattle.std.specs.Prelude.{if◌then◌else◌, ◌&&◌, IfSome, max, min, nat_le, option_map, Result}
+use Rattle.std.specs.Prelude.{if◌then◌else◌, ◌&&◌, not, IfSome, max, min, nat_le, nat_lt, option_map, Result}
 use Rattle.std.specs.Duration.{as_nanos, max_nanos}
 use Rattle.std.specs.declared.alloc.AllocError.{AllocError}
 use Rattle.std.specs.declared.cmp.Ordering.{Ordering}
 use Rattle.std.specs.declared.time.Duration.{Duration}
 use Rattle.std.proofs.lemmas.Bool.Decides.{nat_tests}
 use Rattle.p2p_tracker.specs.Calls.{Settings, Call}
-use Rattle.p2p_tracker.specs.Calls.Call.{UnblockExpired, ForgetCooled}
+use Rattle.p2p_discovery.specs.declared.types.ingress.Ingress.{Ingress}
+use Rattle.p2p_tracker.specs.Calls.Call.{Dial, UnblockExpired, ForgetCooled}
+use Rattle.p2p_tracker.specs.History.{same}
+use Rattle.p2p_tracker.specs.Moments.{moments_after}
 use Rattle.p2p_tracker.specs.Calls.Event.{Expired, Forgot}
 use Rattle.p2p_tracker.specs.Calls.{Cooldown}
 use Rattle.p2p_tracker.specs.Directory.{dial_moment_in}
 use Rattle.p2p_tracker.specs.Lists.{IsLeastOf}
 use Rattle.p2p_tracker.specs.Seen.{unblock_of, cooldown_of}
-use Rattle.p2p_tracker.specs.World.{World, unblock_after, cooldown_after}
+use Rattle.p2p_tracker.specs.World.{World, dial_event, step, unblock_after, cooldown_after}
 use Rattle.std.proofs.lemmas.List.{append_assoc}
 use Rattle.p2p_directory.specs.Nodes.{NodeStandsAt}
 use Rattle.p2p_directory.specs.Received.{Wire}
@@ -23,9 +26,11 @@ use Rattle.p2p_driver.specs.Arrivals.{has_number, deadline_of, IsLeastDeadline}
 use Rattle.p2p_driver.specs.Drivers.{Base, DriverView, DriverStandsAt, DriverStands, Rise, base_of}
 use Rattle.p2p_driver.specs.Happenings.{Happening, calls_of}
 use Rattle.p2p_driver.specs.Links.{is_timed, is_open, is_late, is_to_ask, ask_at, due, next_of, IsLeastDue}
-use Rattle.p2p_driver.specs.Timers.{AreLateAt, AreAskedAt, NoneDue, TimesOut, earlier, held_moment, IsNextTimeout, IsAsBefore}
+use Rattle.p2p_driver.specs.Steps.{dials_by, is_before}
+use Rattle.p2p_driver.specs.Timers.{AreLateAt, AreAskedAt, AreDialedAt, NoneDue, NoneToDial, TimesOut, earlier, held_moment, dial_at, dial_due, IsNextTimeout, IsAsBefore}
 use Rattle.p2p_driver.specs.declared.arrivals.Arrival.{Arrival}
 use Rattle.p2p_driver.specs.declared.links.Held.{Held}
+use Rattle.p2p_driver.specs.declared.pace.Pace.{Pace}
 use Rattle.p2p_driver.specs.declared.links.Phase.{Phase}
 use Rattle.p2p_driver.specs.declared.links.Phase.TheVariants as phase
 use Rattle.p2p_driver.proofs.Early.{same_block, same_cooldown, no_block, no_cooldown}
@@ -80,6 +85,10 @@ module _ {C S : Type 0} (t : Duration) (h : List (Happening C S)) where
   late_calls (Happening.StreamLate n at ∷ es) are = late_calls es are.1
   late_calls (Happening.LinkLate n p at ∷ es) are = late_calls es are.1
   late_calls (Happening.Written n p at ∷ es) are = absurd are.0
+  late_calls (Happening.Dialed n p at draw word ingress ∷ es) are = absurd are.0
+  late_calls (Happening.Undialed at ∷ es) are = absurd are.0
+  late_calls (Happening.Reached n p at ∷ es) are = absurd are.0
+  late_calls (Happening.Mistaken n p at ∷ es) are = absurd are.0
   late_calls (Happening.Spoken n p at place ∷ es) are = absurd are.0
   late_calls (Happening.Arrived n origin at space ∷ es) are = absurd are.0
   late_calls (Happening.Claimed n p origin at ∷ es) are = absurd are.0
@@ -87,7 +96,7 @@ module _ {C S : Type 0} (t : Duration) (h : List (Happening C S)) where
   late_calls (Happening.Proved n p at draw ∷ es) are = absurd are.0
   late_calls (Happening.Unproved n p at why ∷ es) are = absurd are.0
   late_calls (Happening.Left n at ∷ es) are = absurd are.0
-  late_calls (Happening.Ended n p at ∷ es) are = absurd are.0
+  late_calls (Happening.Ended n p at direction ∷ es) are = absurd are.0
   late_calls (Happening.SetCame at index primary secondary torn ∷ es) are = absurd are.0
   late_calls (Happening.StaleSetCame index primary secondary ∷ es) are = absurd are.0
   late_calls (Happening.Heard n p at owed cause outcome ∷ es) are = absurd are.0
@@ -104,6 +113,10 @@ module _ {C S : Type 0} (t : Duration) (h : List (Happening C S)) where
   asked_calls (Happening.StreamLate n at ∷ es) are = absurd are.0
   asked_calls (Happening.LinkLate n p at ∷ es) are = absurd are.0
   asked_calls (Happening.Written n p at ∷ es) are = absurd are.0
+  asked_calls (Happening.Dialed n p at draw word ingress ∷ es) are = absurd are.0
+  asked_calls (Happening.Undialed at ∷ es) are = absurd are.0
+  asked_calls (Happening.Reached n p at ∷ es) are = absurd are.0
+  asked_calls (Happening.Mistaken n p at ∷ es) are = absurd are.0
   asked_calls (Happening.Spoken n p at place ∷ es) are = absurd are.0
   asked_calls (Happening.Arrived n origin at space ∷ es) are = absurd are.0
   asked_calls (Happening.Claimed n p origin at ∷ es) are = absurd are.0
@@ -111,7 +124,7 @@ module _ {C S : Type 0} (t : Duration) (h : List (Happening C S)) where
   asked_calls (Happening.Proved n p at draw ∷ es) are = absurd are.0
   asked_calls (Happening.Unproved n p at why ∷ es) are = absurd are.0
   asked_calls (Happening.Left n at ∷ es) are = absurd are.0
-  asked_calls (Happening.Ended n p at ∷ es) are = absurd are.0
+  asked_calls (Happening.Ended n p at direction ∷ es) are = absurd are.0
   asked_calls (Happening.SetCame at index primary secondary torn ∷ es) are = absurd are.0
   asked_calls (Happening.StaleSetCame index primary secondary ∷ es) are = absurd are.0
   asked_calls (Happening.Heard n p at owed cause outcome ∷ es) are = absurd are.0
@@ -120,6 +133,99 @@ module _ {C S : Type 0} (t : Duration) (h : List (Happening C S)) where
   asked_calls (Happening.Parted p at ∷ es) are = absurd are.0
   asked_calls (Happening.Passed at ∷ es) are = absurd are.0
   asked_calls (Happening.Taken action ∷ es) are = absurd are.0
+
+-- a grant's dial moment is later, if there is a cooldown
+granted_later : (now draw cooldown : ℕ) → 0 < cooldown → now < max_nanos → now < (moments_after now draw cooldown).dial_at
+granted_later now draw cooldown some fits = omega (arith, some, fits)
+
+-- the node once some were dialled: no block ends earlier than it did before, and no cooldown by now
+module _ {C S : Type 0} (d : Settings C S) (some : 1 ≤ d.max_sets) (t : Duration) (words : List ℕ) (h : List (Happening C S)) (p : C) where
+  step_is : (q : C) (draw : ℕ) (cs : List (Call C S)) → world_after d (Dial q (as_nanos t) draw ∷ cs) ≡ step d (world_after d cs) (Dial q (as_nanos t) draw)
+  step_is q draw cs = Law.recomputed_is_one_step d some cs (Dial q (as_nanos t) draw)
+
+  same_unblock : (q : C) (draw : ℕ) (granted : Bool) (address : Option Ingress) (o : Option ℕ) →
+      unblock_after d p (dial_event d q (as_nanos t) draw granted address) o ≡ o
+  same_unblock q draw granted None o = refl
+  same_unblock q draw true (Some a) o = refl
+  same_unblock q draw false (Some a) o = refl
+
+  abbrev Cooled : Option Cooldown → Type 0
+  Cooled o = (c : Cooldown) → o ≡ Some c → as_nanos t < c.dial_at
+
+  still_cooled : (q : C) (draw : ℕ) (granted : Bool) (address : Option Ingress) (o : Option Cooldown) → 0 < d.cooldown → as_nanos t < max_nanos →
+      Cooled o → Cooled (cooldown_after d p (dial_event d q (as_nanos t) draw granted address) o)
+  still_cooled q draw granted None o some fits cooled = cooled
+  still_cooled q draw false (Some a) o some fits cooled = cooled
+  still_cooled q draw true (Some a) o some fits cooled = go (same d q p)
+    where
+      go : (b : Bool) → Cooled (if b then Some (moments_after (as_nanos t) draw d.cooldown) else o)
+      go true c is = subst (λ (x : Cooldown). as_nanos t < x.dial_at) (some_is is) (granted_later (as_nanos t) draw d.cooldown some fits)
+      go false c is = cooled c is
+
+  dialed_blocks : (es : List (Happening C S)) → AreDialedAt t words es →
+      (world_after d (calls_of (es ++ h))).unblock p ≡ (world_after d (calls_of h)).unblock p
+  dialed_blocks [] are = refl
+  dialed_blocks (Happening.Dialed n q at draw word ingress ∷ es) are =
+      let cs : List (Call C S) = calls_of (es ++ h) in
+      ap (λ (x : Duration). (world_after d (Dial q (as_nanos x) (as_nanos draw) ∷ cs)).unblock p) are.0.0
+      ∙ ap (λ (w : World C S). w.unblock p) (step_is q (as_nanos draw) cs)
+      ∙ same_unblock q (as_nanos draw) _ _ ((world_after d cs).unblock p)
+      ∙ dialed_blocks es are.1
+  dialed_blocks (Happening.Undialed at ∷ es) are = dialed_blocks es are.1
+  dialed_blocks (Happening.Arrived n origin at space ∷ es) are = absurd are.0
+  dialed_blocks (Happening.Claimed n p origin at ∷ es) are = absurd are.0
+  dialed_blocks (Happening.Refused n p at why ∷ es) are = absurd are.0
+  dialed_blocks (Happening.Proved n p at draw ∷ es) are = absurd are.0
+  dialed_blocks (Happening.Unproved n p at why ∷ es) are = absurd are.0
+  dialed_blocks (Happening.Left n at ∷ es) are = absurd are.0
+  dialed_blocks (Happening.Reached n p at ∷ es) are = absurd are.0
+  dialed_blocks (Happening.Mistaken n p at ∷ es) are = absurd are.0
+  dialed_blocks (Happening.Ended n p at direction ∷ es) are = absurd are.0
+  dialed_blocks (Happening.SetCame at index primary secondary torn ∷ es) are = absurd are.0
+  dialed_blocks (Happening.StaleSetCame index primary secondary ∷ es) are = absurd are.0
+  dialed_blocks (Happening.StreamLate n at ∷ es) are = absurd are.0
+  dialed_blocks (Happening.LinkLate n p at ∷ es) are = absurd are.0
+  dialed_blocks (Happening.Written n p at ∷ es) are = absurd are.0
+  dialed_blocks (Happening.Spoken n p at place ∷ es) are = absurd are.0
+  dialed_blocks (Happening.Heard n p at owed cause outcome ∷ es) are = absurd are.0
+  dialed_blocks (Happening.Asked n p at owed fits question ∷ es) are = absurd are.0
+  dialed_blocks (Happening.Given infos at ∷ es) are = absurd are.0
+  dialed_blocks (Happening.Barred p at taken ∷ es) are = absurd are.0
+  dialed_blocks (Happening.Parted p at ∷ es) are = absurd are.0
+  dialed_blocks (Happening.Passed at ∷ es) are = absurd are.0
+  dialed_blocks (Happening.Taken action ∷ es) are = absurd are.0
+
+  dialed_cooled : (es : List (Happening C S)) → AreDialedAt t words es → 0 < d.cooldown → as_nanos t < max_nanos →
+      Cooled ((world_after d (calls_of h)).cooldown p) → Cooled ((world_after d (calls_of (es ++ h))).cooldown p)
+  dialed_cooled [] are positive within cooled = cooled
+  dialed_cooled (Happening.Dialed n q at draw word ingress ∷ es) are positive within cooled =
+      let cs : List (Call C S) = calls_of (es ++ h) in
+      subst Cooled (sym (ap (λ (x : Duration). (world_after d (Dial q (as_nanos x) (as_nanos draw) ∷ cs)).cooldown p) are.0.0
+      ∙ ap (λ (w : World C S). w.cooldown p) (step_is q (as_nanos draw) cs)))
+      (still_cooled q (as_nanos draw) _ _ ((world_after d cs).cooldown p) positive within (dialed_cooled es are.1 positive within cooled))
+  dialed_cooled (Happening.Undialed at ∷ es) are positive within cooled = dialed_cooled es are.1 positive within cooled
+  dialed_cooled (Happening.Arrived n origin at space ∷ es) are positive within cooled = absurd are.0
+  dialed_cooled (Happening.Claimed n p origin at ∷ es) are positive within cooled = absurd are.0
+  dialed_cooled (Happening.Refused n p at why ∷ es) are positive within cooled = absurd are.0
+  dialed_cooled (Happening.Proved n p at draw ∷ es) are positive within cooled = absurd are.0
+  dialed_cooled (Happening.Unproved n p at why ∷ es) are positive within cooled = absurd are.0
+  dialed_cooled (Happening.Left n at ∷ es) are positive within cooled = absurd are.0
+  dialed_cooled (Happening.Reached n p at ∷ es) are positive within cooled = absurd are.0
+  dialed_cooled (Happening.Mistaken n p at ∷ es) are positive within cooled = absurd are.0
+  dialed_cooled (Happening.Ended n p at direction ∷ es) are positive within cooled = absurd are.0
+  dialed_cooled (Happening.SetCame at index primary secondary torn ∷ es) are positive within cooled = absurd are.0
+  dialed_cooled (Happening.StaleSetCame index primary secondary ∷ es) are positive within cooled = absurd are.0
+  dialed_cooled (Happening.StreamLate n at ∷ es) are positive within cooled = absurd are.0
+  dialed_cooled (Happening.LinkLate n p at ∷ es) are positive within cooled = absurd are.0
+  dialed_cooled (Happening.Written n p at ∷ es) are positive within cooled = absurd are.0
+  dialed_cooled (Happening.Spoken n p at place ∷ es) are positive within cooled = absurd are.0
+  dialed_cooled (Happening.Heard n p at owed cause outcome ∷ es) are positive within cooled = absurd are.0
+  dialed_cooled (Happening.Asked n p at owed fits question ∷ es) are positive within cooled = absurd are.0
+  dialed_cooled (Happening.Given infos at ∷ es) are positive within cooled = absurd are.0
+  dialed_cooled (Happening.Barred p at taken ∷ es) are positive within cooled = absurd are.0
+  dialed_cooled (Happening.Parted p at ∷ es) are positive within cooled = absurd are.0
+  dialed_cooled (Happening.Passed at ∷ es) are positive within cooled = absurd are.0
+  dialed_cooled (Happening.Taken action ∷ es) are positive within cooled = absurd are.0
 
 -- A LATER MOMENT, if there is one
 
@@ -151,70 +257,102 @@ module _ {C : Type 0} where
       subst (λ n. t < n) at.3 (later at.1.number at.1 (found_by m last xs rise at.0 at.1 at.2).1)
 
 -- nothing is due of a link
-link_later : (greeting silence tick t : ℕ) (held : Held) → is_timed held.phase ≡ true → is_late greeting silence t held ≡ false →
-    is_to_ask tick t held ≡ false → t < next_of greeting silence tick held
-link_later greeting silence tick t held timed late ask = go held.phase timed late ask
+link_later : (pace : Pace) (t : ℕ) (held : Held) → is_timed held.phase ≡ true → is_late pace t held ≡ false →
+    is_to_ask (as_nanos pace.tick) t held ≡ false → t < next_of pace held
+link_later pace t held timed late ask = go held.phase timed late ask
   where
-    not_due : (b : Bool) → nat_le (due greeting silence held) t ≡ b → b ≡ false → t < due greeting silence held
-    not_due b at is = past (due greeting silence held) t (at ∙ is)
+    not_due : (b : Bool) → nat_le (due pace held) t ≡ b → b ≡ false → t < due pace held
+    not_due b at is = past (due pace held) t (at ∙ is)
 
-    not_asked : (b : Bool) → nat_le (ask_at tick held) t ≡ b → b ≡ false → t < ask_at tick held
-    not_asked b at is = past (ask_at tick held) t (at ∙ is)
+    not_asked : (b : Bool) → nat_le (ask_at (as_nanos pace.tick) held) t ≡ b → b ≡ false → t < ask_at (as_nanos pace.tick) held
+    not_asked b at is = past (ask_at (as_nanos pace.tick) held) t (at ∙ is)
 
     both : (a b : ℕ) → t < a → t < b → t < min a b
     both a b one two = grind (arith)
 
-    go : (ph : Phase) → is_timed ph ≡ true → (is_timed ph && nat_le (due greeting silence held) t) ≡ false →
-        (is_open ph && nat_le (ask_at tick held) t) ≡ false →
-        t < (if is_open ph then min (due greeting silence held) (ask_at tick held) else due greeting silence held)
+    go : (ph : Phase) → is_timed ph ≡ true → (is_timed ph && nat_le (due pace held) t) ≡ false →
+        (is_open ph && nat_le (ask_at (as_nanos pace.tick) held) t) ≡ false →
+        t < (if is_open ph then min (due pace held) (ask_at (as_nanos pace.tick) held) else due pace held)
     go phase.Greeting timed late ask = not_due _ refl late
-    go phase.Open timed late ask = both (due greeting silence held) (ask_at tick held) (not_due _ refl late) (not_asked _ refl ask)
+    go phase.Open timed late ask = both (due pace held) (ask_at (as_nanos pace.tick) held) (not_due _ refl late) (not_asked _ refl ask)
     go phase.Closing timed late ask = absurd cc
 
 -- WHAT IS DUE NEXT
 
 module _ {C S : Type 0} (cmp : C → C → Ordering) (wire : Wire C S) where
   links_later : (t : ℕ) (v : DriverView C S) (least : Option ℕ) → NoneDue cmp t v →
-      IsLeastDue cmp (next_of (as_nanos v.pace.greeting) (as_nanos v.pace.silence) (as_nanos v.pace.tick)) v.links least → IsLater t least
+      IsLeastDue cmp (next_of v.pace) v.links least → IsLater t least
   links_later t v None none is = tt
   links_later t v (Some least) none is = let at = is.1 in
-      subst (λ n. t < n) at.4 (link_later (as_nanos v.pace.greeting) (as_nanos v.pace.silence) (as_nanos v.pace.tick) t at.1 at.3
+      subst (λ n. t < n) at.4 (link_later v.pace t at.1 at.3
       (none.late.links at.0 at.1 at.2) (none.to_ask at.0 at.1 at.2))
 
-  module _ (now : ℕ) (result : Result (Unit {0}) AllocError) (v v2 : DriverView C S) (stands : DriverStands cmp wire v) (did : TimesOut cmp wire now result v v2) where
+  module _ (now : ℕ) (words : List ℕ) (result : Result (Unit {0}) AllocError) (v v2 : DriverView C S) (stands : DriverStands cmp wire v)
+      (did : TimesOut cmp wire now words result v v2) where
     abbrev b : Base C S
     b = base_of cmp wire stands.given stands.pace
 
-    at : DriverStandsAt b (did.asked ++ (did.late ++ Happening.Passed did.time ∷ stands.history)) v2
+    -- what was done before anybody was dialled
+    abbrev before : List (Happening C S)
+    before = did.asked ++ (did.late ++ Happening.Passed did.time ∷ stands.history)
+
+    at : DriverStandsAt b (did.dialed ++ before) v2
     at = subst (λ k. DriverStandsAt b k v2)
-        (append_assoc did.asked (did.late ++ Happening.Passed did.time ∷ []) stands.history
-        ∙ ap (λ k. did.asked ++ k) (append_assoc did.late (Happening.Passed did.time ∷ []) stands.history))
+        (append_assoc did.dialed (did.asked ++ (did.late ++ Happening.Passed did.time ∷ [])) stands.history
+        ∙ ap (λ k. did.dialed ++ k) (append_assoc did.asked (did.late ++ Happening.Passed did.time ∷ []) stands.history
+        ∙ ap (λ k. did.asked ++ k) (append_assoc did.late (Happening.Passed did.time ∷ []) stands.history)))
         (did.does stands.given stands.pace stands.history stands.stands)
 
-    -- how the node stands then
-    node : NodeStandsAt b.made (UnblockExpired (as_nanos did.time) ∷ ForgetCooled (as_nanos did.time) ∷ calls_of stands.history) v2.node
-    node = subst (λ cs. NodeStandsAt b.made cs v2.node)
-        (asked_calls did.time (did.late ++ Happening.Passed did.time ∷ stands.history) did.asked did.are_asked
-        ∙ late_calls did.time (Happening.Passed did.time ∷ stands.history) did.late did.are_late) at.node
+    -- what was asked of the node then
+    calls : calls_of before ≡ UnblockExpired (as_nanos did.time) ∷ ForgetCooled (as_nanos did.time) ∷ calls_of stands.history
+    calls = asked_calls did.time (did.late ++ Happening.Passed did.time ∷ stands.history) did.asked did.are_asked
+        ∙ late_calls did.time (Happening.Passed did.time ∷ stands.history) did.late did.are_late
 
     blocks : (p : C) (n : ℕ) → unblock_of cmp v2.node.directory p ≡ Some n → max v.latest now < n
     blocks p n is = subst (λ k. k < n) did.time_is (unblock_later b.made.directory stands.given.cfg.max_sets.ok (calls_of stands.history)
-        (as_nanos did.time) p n (sym (node.refines.blocks p) ∙ is))
+        (as_nanos did.time) p n (sym (ap (λ cs. (world_after b.made.directory cs).unblock p) calls)
+        ∙ sym (dialed_blocks b.made.directory stands.given.cfg.max_sets.ok did.time words before p did.dialed did.are_dialed)
+        ∙ sym (at.node.refines.blocks p) ∙ is))
 
-    cooldowns : (p : C) (n : ℕ) → dial_moment_in cmp v2.node.directory p ≡ Some n → max v.latest now < n
-    cooldowns p n is = go (cooldown_of cmp v2.node.directory p) refl is
+    cooldowns : 0 < b.made.directory.cooldown → max v.latest now < max_nanos → (p : C) (n : ℕ) → dial_moment_in cmp v2.node.directory p ≡ Some n → max v.latest now < n
+    cooldowns positive fits p n is = go (cooldown_of cmp v2.node.directory p) refl is
       where
+        cooled : (c : Cooldown) → (world_after b.made.directory (calls_of (did.dialed ++ before))).cooldown p ≡ Some c → as_nanos did.time < c.dial_at
+        cooled = dialed_cooled b.made.directory stands.given.cfg.max_sets.ok did.time words before p did.dialed did.are_dialed positive
+            (subst (λ k. k < max_nanos) (sym did.time_is) fits)
+            (λ c is. dial_later b.made.directory stands.given.cfg.max_sets.ok (calls_of stands.history) (as_nanos did.time) p c
+            (sym (ap (λ cs. (world_after b.made.directory cs).cooldown p) calls) ∙ is))
+
         go : (o : Option Cooldown) → cooldown_of cmp v2.node.directory p ≡ o → option_map (λ c. c.dial_at) o ≡ Some n → max v.latest now < n
         go None has is = absurd (no_some n is)
         go (Some c) has is = subst (λ k. max v.latest now < k) (some_is is) (subst (λ k. k < c.dial_at) did.time_is
-            (dial_later b.made.directory stands.given.cfg.max_sets.ok (calls_of stands.history) (as_nanos did.time) p c
-            (sym (node.refines.cooldowns p) ∙ has)))
+            (cooled c (sym (at.node.refines.cooldowns p) ∙ has)))
+
+    -- nobody is to be dialled by now
+    dial_later_due : NoneToDial (max v.latest now) v2 → IsLater (max v.latest now) (dial_due v2)
+    dial_later_due none = go (dials_by v2.pace v2.links) refl (dial_at v2) none
+      where
+        go : (x : Bool) → dials_by v2.pace v2.links ≡ x → (o : Option ℕ) → (not (is_before (max v.latest now) o) && dials_by v2.pace v2.links) ≡ false →
+            IsLater (max v.latest now) (if dials_by v2.pace v2.links then o else None)
+        go false is o none = subst (λ x. IsLater (max v.latest now) (if x then o else None)) (sym is) tt
+        go true is None none = subst (λ x. IsLater (max v.latest now) (if x then None else None)) (sym is) tt
+        go true is (Some m) none = subst (λ x. IsLater (max v.latest now) (if x then Some m else None)) (sym is)
+            (above m (sym (ap (λ x. not (nat_lt (max v.latest now) m) && x) is) ∙ none))
+          where
+            above : (m : ℕ) → (not (nat_lt (max v.latest now) m) && true) ≡ false → max v.latest now < m
+            above m none = lower (nat_lt (max v.latest now) m) refl none
+              where
+                lower : (x : Bool) → nat_lt (max v.latest now) m ≡ x → (not x && true) ≡ false → max v.latest now < m
+                lower true is none = grind (arith, nat_tests)
+                lower false is none = absurd cc
 
     -- once a driver has done what was due by now, what is due next is later
-    pub next_is_later : NoneDue cmp (max v.latest now) v2 → max v.latest now < max_nanos → (next : Option ℕ) → IsNextTimeout cmp v2 next →
-        IsLater (max v.latest now) next
-    next_is_later none fits next is =
+    pub next_is_later : NoneDue cmp (max v.latest now) v2 → NoneToDial (max v.latest now) v2 → 0 < b.made.directory.cooldown →
+        max v.latest now < max_nanos → (next : Option ℕ) → IsNextTimeout cmp v2 next → IsLater (max v.latest now) next
+    next_is_later none nobody positive fits next is =
         subst (IsLater (max v.latest now)) (sym is.next_is)
+        (earlier_later (max v.latest now) (held_moment (dial_due v2)) (earlier (earlier (held_moment is.stream) (held_moment is.link)) (earlier is.block is.cooldown))
+        (held_later (max v.latest now) (dial_due v2) fits (dial_later_due nobody))
         (earlier_later (max v.latest now) (earlier (held_moment is.stream) (held_moment is.link)) (earlier is.block is.cooldown)
         (earlier_later (max v.latest now) (held_moment is.stream) (held_moment is.link)
         (held_later (max v.latest now) is.stream fits (streams_later (max v.latest now) (as_nanos v2.pace.first) (as_nanos v2.pace.handshake) 0 _ v2.arrivals
@@ -222,17 +360,18 @@ module _ {C S : Type 0} (cmp : C → C → Ordering) (wire : Wire C S) where
         (held_later (max v.latest now) is.link fits (links_later (max v.latest now) v2 is.link none is.links)))
         (earlier_later (max v.latest now) is.block is.cooldown
         (least_later (max v.latest now) (unblock_of cmp v2.node.directory) is.block is.blocks blocks)
-        (least_later (max v.latest now) (dial_moment_in cmp v2.node.directory) is.cooldown is.cooldowns cooldowns)))
+        (least_later (max v.latest now) (dial_moment_in cmp v2.node.directory) is.cooldown is.cooldowns (cooldowns positive fits)))))
 
     -- if nothing was due, all is as it was
-    pub as_before : (next : Option ℕ) → IsNextTimeout cmp v next → IsLater (max v.latest now) next →
+    pub as_before : (t : ℕ) → t ≡ max v.latest now → NodeStandsAt b.made (UnblockExpired t ∷ ForgetCooled t ∷ calls_of stands.history) v2.node →
+        (next : Option ℕ) → IsNextTimeout cmp v next → IsLater (max v.latest now) next →
         v2 ≡ record v { node = v2.node; latest = max v.latest now } → IsAsBefore cmp (max v.latest now) v v2
-    as_before next is later rest = record {
+    as_before t time_is node next is later rest = record {
       rest = rest;
-      blocks = λ p. same_block b.made stands.given.cfg.max_sets.ok (calls_of stands.history) (as_nanos did.time) v.node v2.node stands.stands.node node p
-          (λ n at. subst (λ k. k < n) (sym did.time_is) (no_block cmp (max v.latest now) v next is later p n at));
-      cooldowns = λ p. same_cooldown b.made stands.given.cfg.max_sets.ok (calls_of stands.history) (as_nanos did.time) v.node v2.node stands.stands.node node p
-          (λ n at. subst (λ k. k < n) (sym did.time_is) (no_cooldown cmp (max v.latest now) v next is later p n at));
+      blocks = λ p. same_block b.made stands.given.cfg.max_sets.ok (calls_of stands.history) t v.node v2.node stands.stands.node node p
+          (λ n at. subst (λ k. k < n) (sym time_is) (no_block cmp (max v.latest now) v next is later p n at));
+      cooldowns = λ p. same_cooldown b.made stands.given.cfg.max_sets.ok (calls_of stands.history) t v.node v2.node stands.stands.node node p
+          (λ n at. subst (λ k. k < n) (sym time_is) (no_cooldown cmp (max v.latest now) v next is later p n at));
     }
 
 -- what is as it was before is so after

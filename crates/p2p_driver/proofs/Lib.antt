@@ -12,13 +12,18 @@ mod Fewer
 mod Called
 mod StreamHistory
 mod LinkHistory
+mod Dials
 mod Unused
 mod Metered
 mod Placed
 mod Paced
 mod Standing
 mod Status
+mod Counted
+mod Dialable
+mod Quiet
 mod Driving
+mod DrivingDials
 mod DrivingSets
 mod DrivingTimers
 mod Busy
@@ -51,6 +56,7 @@ mod Spared
 mod Later
 mod Early
 mod Shown
+mod ShownDial
 mod Spelled
 mod Fitting
 mod Reading

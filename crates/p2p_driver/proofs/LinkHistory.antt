@@ -1,6 +1,6 @@
 -- The links of peers after one more happening, and what was said.
 use Rattle.std.proofs.Common.{◌≡◌, ℕ, ◌+◌, Bool, true, false, ◌||◌, ◌&&◌, cond, List, [], ◌∷◌, ◌++◌, Option, Some, None, refl, sym, ◌∙◌, ap, arith}
-use Rattle.std.specs.Prelude.{if◌then◌else◌, option_map, unwrap_or, drop}
+use Rattle.std.specs.Prelude.{if◌then◌else◌, option_map, unwrap_or, drop, is_some}
 use Rattle.std.specs.List.{list_any, count_by}
 use Rattle.std.proofs.lemmas.List.Sums.{sum_by-cons}
 use Rattle.std.specs.declared.time.Duration.{Duration}
@@ -8,17 +8,19 @@ use Rattle.std.proofs.lemmas.List.{append-nil, append_assoc}
 use Rattle.p2p_tracker.specs.Calls.{Settings}
 use Rattle.p2p_tracker.specs.History.{same, last_with, found_with}
 use Rattle.p2p_driver.specs.declared.links.Asked.{Asked}
+use Rattle.p2p_driver.specs.declared.links.Direction.{Direction}
 use Rattle.p2p_driver.specs.declared.links.Held.{Held}
 use Rattle.p2p_driver.specs.declared.links.Phase.{Phase}
 use Rattle.p2p_driver.specs.declared.links.Phase.TheVariants as phase
 use Rattle.p2p_driver.specs.declared.links.Waiting.{Waiting}
 use Rattle.p2p_driver.specs.declared.questions.Question.{Question}
 use Rattle.p2p_discovery.specs.Judgement.{first_of}
+use Rattle.p2p_discovery.specs.declared.types.ingress.Ingress.{Ingress}
 use Rattle.p2p_driver.specs.Questions.{asked_after, counted}
 use Rattle.p2p_driver.specs.Frames.{Cause, Outcome, waiting_by}
 use Rattle.p2p_driver.specs.Looked.{LookedView}
-use Rattle.p2p_driver.specs.Happenings.{Happening, link_at, link_since, opened_by, ends_by, closes_by, greets_by, heard_by, phase_of, owed_by, tried_by, index_by, newest_by, index_tried, newest_tried, tried_with, kept_of, last_heard, last_tried, last_looked, asked_in, is_closing, is_greeted, is_heard, looked_by, looks_by, heard_as, says_on, said_as, said_with, writes_by, unwritten_in}
-use Rattle.p2p_driver.specs.Links.{link_with, greeted, unless_closing, hearing, opened, asking, allowing, saying, with_said, writing, closed}
+use Rattle.p2p_driver.specs.Happenings.{Happening, link_at, link_since, opened_by, ends_by, closes_by, greets_by, heard_by, phase_of, owed_by, tried_by, index_by, newest_by, index_tried, newest_tried, tried_with, kept_of, last_heard, last_tried, last_looked, asked_in, is_closing, is_greeted, is_heard, looked_by, looks_by, heard_as, says_on, said_as, said_with, writes_by, unwritten_in, reached_by, way_of, proved_at, first_said}
+use Rattle.p2p_driver.specs.Links.{link_with, dial_with, reached, proved_way, greeted, unless_closing, hearing, opened, asking, allowing, saying, with_said, writing, closed}
 
 -- a phase once the link was closed, or greeted on
 abbrev pub phase_after : Bool → Bool → Phase → Phase
@@ -46,7 +48,7 @@ of_open false true is = refl
 of_open false false is = absurd cc
 
 -- what one happening does to a link: it is closed, its peer greets, or is heard, questions are owed, one is due, a frame
--- may be handed in, or none, a frame is written, and one is said
+-- may be handed in, or none, a frame is written, one is said, and the stream of a dial is proved
 pub record Touch : Type 0 where
   pub closes : Bool
   pub greets : Bool
@@ -56,18 +58,19 @@ pub record Touch : Type 0 where
   pub looked : Option (Option LookedView)
   pub written : Bool
   pub said : Option Duration
+  pub reaches : Option Duration
 
 -- nothing
 abbrev pub untouched : Touch
-untouched = record { closes = false; greets = false; heard = None; owed = None; tried = None; looked = None; written = false; said = None }
+untouched = record { closes = false; greets = false; heard = None; owed = None; tried = None; looked = None; written = false; said = None; reaches = None }
 
 -- it is closed, or not
 abbrev pub closing_if : Bool → Touch
-closing_if b = record { closes = b; greets = false; heard = None; owed = None; tried = None; looked = None; written = false; said = None }
+closing_if b = record { closes = b; greets = false; heard = None; owed = None; tried = None; looked = None; written = false; said = None; reaches = None }
 
 -- a frame is written, or not
 abbrev pub writing_if : Bool → Touch
-writing_if b = record { closes = false; greets = false; heard = None; owed = None; tried = None; looked = None; written = b; said = None }
+writing_if b = record { closes = false; greets = false; heard = None; owed = None; tried = None; looked = None; written = b; said = None; reaches = None }
 
 -- when its peer was heard last, how much is owed, what waits, and what is kept of its questions
 abbrev pub heard_after : Option (Duration × Option Waiting) → Duration → Duration
@@ -93,11 +96,21 @@ tried_after (Some tried) asked = asked_after tried.0 tried.1 asked
 abbrev pub unwritten_after : Bool → Option Duration → List Duration → List Duration
 unwritten_after written said unwritten = with_said said (if written then drop 1 unwritten else unwritten)
 
+-- whether a dial is under way, and when its key was proved
+abbrev pub way_after : Option Duration → Direction → Direction
+way_after None direction = direction
+way_after (Some t) direction = proved_way direction
+
+abbrev pub since_after : Option Duration → Duration → Duration
+since_after None since = since
+since_after (Some t) since = t
+
 abbrev pub touched : Touch → Held → Held
 touched touch held = record {
   number = held.number;
+  direction = way_after touch.reaches held.direction;
   phase = phase_after touch.closes touch.greets held.phase;
-  since = held.since;
+  since = since_after touch.reaches held.since;
   heard = heard_after touch.heard held.heard;
   owed = owed_now touch.owed held.owed;
   waiting = waiting_after touch.heard touch.closes (phase_after touch.closes touch.greets held.phase) held.waiting;
@@ -135,7 +148,7 @@ written_link false o = unchanged_link o
 
 -- .. or one is said
 abbrev pub saying_if : Option Duration → Touch
-saying_if said = record { closes = false; greets = false; heard = None; owed = None; tried = None; looked = None; written = false; said = said }
+saying_if said = record { closes = false; greets = false; heard = None; owed = None; tried = None; looked = None; written = false; said = said; reaches = None }
 
 pub spoken_link : (b : Bool) (t : Duration) (o : Option Held) →
     link_after false (saying_if (if b then Some t else None)) o ≡ (if b then option_map (saying (Some t)) o else o)
@@ -143,11 +156,37 @@ spoken_link true t None = refl
 spoken_link true t (Some held) = refl
 spoken_link false t o = unchanged_link o
 
+-- .. or the stream of a dial is proved
+abbrev pub reaching_if : Bool → Duration → Touch
+reaching_if b t = record {
+  closes = false;
+  greets = false;
+  heard = if b then Some (t, None) else None;
+  owed = None;
+  tried = None;
+  looked = None;
+  written = false;
+  said = if b then Some t else None;
+  reaches = if b then Some t else None;
+}
+
 -- nothing is kept of nothing
 pub nothing_kept : {A : Type 0} (ph : Phase) → unless_closing {A = A} ph None ≡ None
 nothing_kept phase.Greeting = refl
 nothing_kept phase.Open = refl
 nothing_kept phase.Closing = refl
+
+pub reached_link : (b : Bool) (t : Duration) (o : Option Held) →
+    link_after false (reaching_if b t) o ≡ (if b then option_map (λ x. saying (Some t) (reached t x)) o else o)
+reached_link true t None = refl
+reached_link true t (Some held) = ap (λ w. Some (record held {
+  direction = proved_way held.direction;
+  since = t;
+  heard = t;
+  waiting = w;
+  unwritten = with_said (Some t) held.unwritten;
+})) (nothing_kept {A = Waiting} held.phase)
+reached_link false t o = unchanged_link o
 
 -- .. or greeted on
 pub opened_link : (b : Bool) (t : Duration) (owed : ℕ) (question : Option Question) (o : Option Held) →
@@ -160,6 +199,7 @@ pub opened_link : (b : Bool) (t : Duration) (owed : ℕ) (question : Option Ques
       looked = if b then Some None else None;
       written = false;
       said = if b then said_with t question else None;
+      reaches = None;
     }) o ≡ (if b then option_map (λ h. saying (said_with t question) (opened t owed (asked_after t question h.asked) h)) o else o)
 opened_link true t owed question None = refl
 opened_link true t owed question (Some held) = λ i. Some (record held {
@@ -184,6 +224,7 @@ pub heard_link : (b : Bool) (t : Duration) (owed : ℕ) (w : Option Waiting) (sa
       looked = if b then Some None else None;
       written = false;
       said = if b then said else None;
+      reaches = None;
     }) o ≡ (if b then option_map (λ h. saying said (hearing t owed w h)) o else o)
 heard_link true t owed w said None = refl
 heard_link true t owed w said (Some held) = ap (λ l. Some (record held {
@@ -206,6 +247,7 @@ pub asked_link : (b : Bool) (t : Duration) (owed : ℕ) (question : Option Quest
       looked = None;
       written = false;
       said = if b then said_with t question else None;
+      reaches = None;
     }) o ≡ (if b then option_map (λ h. saying (said_with t question) (asking owed (asked_after t question h.asked) h)) o else o)
 asked_link true t owed question None = refl
 asked_link true t owed question (Some held) = refl
@@ -222,6 +264,7 @@ cut_link : (b : Bool) (o : Option Held) →
       looked = if b then Some None else None;
       written = false;
       said = if b then None else None;
+      reaches = None;
     }) o
     ≡ (if b then option_map closed o else o)
 cut_link true None = refl
@@ -239,6 +282,7 @@ allowed_link : (b : Bool) (l : LookedView) (o : Option Held) →
       looked = if b then Some (Some l) else None;
       written = false;
       said = if b then None else None;
+      reaches = None;
     }) o ≡ (if b then option_map (allowing l) o else o)
 allowed_link true l None = refl
 allowed_link true l (Some held) = refl
@@ -255,9 +299,10 @@ pub outcome_link : {C S : Type 0} (b : Bool) (t : Duration) (owed : ℕ) (outcom
       looked = if b then Some (looked_by outcome) else None;
       written = false;
       said = if b then said_as t outcome else None;
+      reaches = None;
     }) o ≡ (if b then option_map (heard_as t owed outcome) o else o)
 outcome_link b t owed (Outcome.Waits waiting) o = heard_link b t owed (Some waiting) None o
-outcome_link b t owed (Outcome.Greets info question) o = opened_link b t owed question o
+outcome_link b t owed (Outcome.Greets dialer info question) o = opened_link b t owed question o
 outcome_link b t owed (Outcome.Takes infos) o = heard_link b t owed None None o
 outcome_link b t owed (Outcome.Answers reply) o = heard_link b t owed None (Some t) o
 outcome_link b t owed (Outcome.Delivers message) o = heard_link b t owed None None o
@@ -270,9 +315,10 @@ outcome_link b t owed (Outcome.Reads kind looked) o = allowed_link b looked o
 
 -- what is kept of a link, by how far it is, when its peer was heard last, how much is owed, what waits, its questions,
 -- the frame that may be handed in, and the frames that aren't written
-abbrev kept_with : ℕ → Duration → Phase → Duration × Option Waiting → ℕ → Asked → Option LookedView → List Duration → Held
-kept_with n t ph last owed asked looked unwritten = record {
+abbrev kept_with : ℕ → Direction → Duration → Phase → Duration × Option Waiting → ℕ → Asked → Option LookedView → List Duration → Held
+kept_with n way t ph last owed asked looked unwritten = record {
   number = n;
+  direction = way;
   phase = ph;
   since = t;
   heard = last.0;
@@ -316,17 +362,18 @@ heard_step : (heard : Option (Duration × Option Waiting)) (last : Duration × O
 heard_step (Some heard) last = refl
 heard_step None last = refl
 
-kept_step : (n : ℕ) (t : Duration) (c g : Bool) (heard : Option (Duration × Option Waiting)) (o : Option ℕ)
+kept_step : (n : ℕ) (way : Direction) (t : Duration) (c g : Bool) (heard : Option (Duration × Option Waiting)) (o : Option ℕ)
     (tried : Option (Duration × Option Question)) (looked : Option (Option LookedView)) (ph : Phase) (last : Duration × Option Waiting) (owed : ℕ)
-    (asked : Asked) (last_seen : Option LookedView) (written : Bool) (said : Option Duration) (unwritten : List Duration) →
-    kept_with n t (phase_after c g ph) (last_after heard last) (owed_now o owed) (tried_after tried asked) (last_looked_after looked last_seen)
+    (asked : Asked) (last_seen : Option LookedView) (written : Bool) (said reaches : Option Duration) (unwritten : List Duration) →
+    kept_with n (way_after reaches way) (since_after reaches t) (phase_after c g ph) (last_after heard last) (owed_now o owed) (tried_after tried asked) (last_looked_after looked last_seen)
     (unwritten_after written said unwritten)
-    ≡ touched (record { closes = c; greets = g; heard = heard; owed = o; tried = tried; looked = looked; written = written; said = said })
-    (kept_with n t ph last owed asked last_seen unwritten)
-kept_step n t c g heard o tried looked ph last owed asked last_seen written said unwritten = λ i. record {
+    ≡ touched (record { closes = c; greets = g; heard = heard; owed = o; tried = tried; looked = looked; written = written; said = said; reaches = reaches })
+    (kept_with n way t ph last owed asked last_seen unwritten)
+kept_step n way t c g heard o tried looked ph last owed asked last_seen written said reaches unwritten = λ i. record {
   number = n;
+  direction = way_after reaches way;
   phase = phase_after c g ph;
-  since = t;
+  since = since_after reaches t;
   heard = heard_step heard last i;
   owed = owed_now o owed;
   waiting = waiting_step c g heard ph last i;
@@ -356,7 +403,22 @@ module _ {C S : Type 0} (s : Settings C S) where
     looked = looks_by s p e;
     written = writes_by s p e;
     said = says_on s p e;
+    reaches = reached_by s p e;
   }
+
+  way_step : (dial : Bool) (e : Happening C S) (reaches : Option Duration) (found : Option (Duration × List (Happening C S))) →
+      way_of s dial (is_some (found_with reaches e found)) ≡ way_after reaches (way_of s dial (is_some found))
+  way_step false e (Some t) found = refl
+  way_step true e (Some t) None = refl
+  way_step true e (Some t) (Some found) = refl
+  way_step dial e None None = refl
+  way_step dial e None (Some found) = refl
+
+  proved_step : (t : Duration) (e : Happening C S) (reaches : Option Duration) (found : Option (Duration × List (Happening C S))) →
+      proved_at s t (found_with reaches e found) ≡ since_after reaches (proved_at s t found)
+  proved_step t e (Some now) found = refl
+  proved_step t e None None = refl
+  proved_step t e None (Some found) = refl
 
   looks_step : (e : Happening C S) (looked : Option (Option LookedView)) (found : Option (Option LookedView × List (Happening C S))) →
       last_looked s (found_with looked e found) ≡ last_looked_after looked (last_looked s found)
@@ -412,31 +474,35 @@ module _ {C S : Type 0} (s : Settings C S) where
           ∙ ap (asked_at now (first_of q.index (option_map (λ x. x.0) (last_with (index_by s p) since))))
           (counted_more q.newest (count_by (newest_by s p) since))
 
-  kept_later : (p : C) (e : Happening C S) (n : ℕ) (t : Duration) (since : List (Happening C S)) →
-      kept_of s p n t (e ∷ since) ≡ touched (touch_by p e) (kept_of s p n t since)
-  kept_later p e n t since =
+  kept_later : (p : C) (e : Happening C S) (n : ℕ) (dial : Bool) (t : Duration) (since : List (Happening C S)) →
+      kept_of s p n dial t (e ∷ since) ≡ touched (touch_by p e) (kept_of s p n dial t since)
+  kept_later p e n dial t since =
       let ph : Phase = phase_of (list_any (closes_by s p) since) (list_any (greets_by s p) since) in
       let last : Duration × Option Waiting = last_heard s t (last_with (heard_by s p) since) in
       let owed : ℕ = unwrap_or (option_map (λ x. x.0) (last_with (owed_by s p) since)) 0 in
       let seen : Option LookedView = last_looked s (last_with (looks_by s p) since) in
-      (λ i. kept_with n t
+      let way : Direction = way_of s dial (is_some (last_with (reached_by s p) since)) in
+      let at : Duration = proved_at s t (last_with (reached_by s p) since) in
+      (λ i. kept_with n
+      (way_step dial e (reached_by s p e) (last_with (reached_by s p) since) i)
+      (proved_step t e (reached_by s p e) (last_with (reached_by s p) since) i)
       (phase_step (closes_by s p e) (list_any (closes_by s p) since) (greets_by s p e) (list_any (greets_by s p) since) i)
       (last_step t e (heard_by s p e) (last_with (heard_by s p) since) i)
       (owed_step e (owed_by s p e) (last_with (owed_by s p) since) i)
       (asked_step p t e since i)
       (looks_step e (looks_by s p e) (last_with (looks_by s p) since) i)
-      (unwritten_in s p t (e ∷ since)))
-      ∙ kept_step n t (closes_by s p e) (greets_by s p e) (heard_by s p e) (owed_by s p e) (tried_by s p e) (looks_by s p e) ph last owed
-      (asked_in s p t since) seen (writes_by s p e) (says_on s p e) (unwritten_in s p t since)
+      (unwritten_in s p (first_said s dial t) (e ∷ since)))
+      ∙ kept_step n way at (closes_by s p e) (greets_by s p e) (heard_by s p e) (owed_by s p e) (tried_by s p e) (looks_by s p e) ph last owed
+      (asked_in s p t since) seen (writes_by s p e) (says_on s p e) (reached_by s p e) (unwritten_in s p (first_said s dial t) since)
 
-  later : (p : C) (e : Happening C S) (found : Option ((ℕ × Duration) × List (Happening C S))) →
+  later : (p : C) (e : Happening C S) (found : Option ((ℕ × Bool × Duration) × List (Happening C S))) →
       link_since s p (found_with None e found) ≡ link_after (ends_by s p e) (touch_by p e) (link_since s p found)
   later p e None = refl
-  later p e (Some found) = go (ends_by s p e) (list_any (ends_by s p) found.1) (kept_later p e found.0.0 found.0.1 found.1)
+  later p e (Some found) = go (ends_by s p e) (list_any (ends_by s p) found.1) (kept_later p e found.0.0 found.0.1 found.0.2 found.1)
     where
-      go : (ends ended : Bool) → kept_of s p found.0.0 found.0.1 (e ∷ found.1) ≡ touched (touch_by p e) (kept_of s p found.0.0 found.0.1 found.1) →
-          (if ends || ended then None else Some (kept_of s p found.0.0 found.0.1 (e ∷ found.1)))
-          ≡ link_after ends (touch_by p e) (if ended then None else Some (kept_of s p found.0.0 found.0.1 found.1))
+      go : (ends ended : Bool) → kept_of s p found.0.0 found.0.1 found.0.2 (e ∷ found.1) ≡ touched (touch_by p e) (kept_of s p found.0.0 found.0.1 found.0.2 found.1) →
+          (if ends || ended then None else Some (kept_of s p found.0.0 found.0.1 found.0.2 (e ∷ found.1)))
+          ≡ link_after ends (touch_by p e) (if ended then None else Some (kept_of s p found.0.0 found.0.1 found.0.2 found.1))
       go true true is = refl
       go true false is = refl
       go false true is = refl
@@ -461,12 +527,31 @@ module _ {C S : Type 0} (s : Settings C S) where
       link_at s p (Happening.Proved n q t draw ∷ h) ≡ (if same s q p then Some (link_with n t) else link_at s p h)
   link_opens p q n t draw h = go (same s q p)
     where
-      go : (b : Bool) → link_since s p (found_with (if b then Some (n, t) else None)
+      go : (b : Bool) → link_since s p (found_with (if b then Some (n, false, t) else None)
           (Happening.Proved n q t draw) (last_with (opened_by s p) h))
           ≡ (if b then Some (link_with n t) else link_at s p h)
       go true = refl
       go false = later p (Happening.Proved n q t draw) (last_with (opened_by s p) h)
           ∙ unchanged_link (link_at s p h)
+
+  -- .. a dial of q did
+  pub link_dials : (p q : C) (n : ℕ) (t draw : Duration) (word : ℕ) (ingress : Ingress) (h : List (Happening C S)) →
+      link_at s p (Happening.Dialed n q t draw word ingress ∷ h) ≡ (if same s q p then Some (dial_with n t) else link_at s p h)
+  link_dials p q n t draw word ingress h = go (same s q p)
+    where
+      go : (b : Bool) → link_since s p (found_with (if b then Some (n, true, t) else None)
+          (Happening.Dialed n q t draw word ingress) (last_with (opened_by s p) h))
+          ≡ (if b then Some (dial_with n t) else link_at s p h)
+      go true = refl
+      go false = later p (Happening.Dialed n q t draw word ingress) (last_with (opened_by s p) h)
+          ∙ unchanged_link (link_at s p h)
+
+  -- one by which the stream of a dial of q was proved
+  pub link_reaches : (p q : C) (n : ℕ) (t : Duration) (h : List (Happening C S)) →
+      link_at s p (Happening.Reached n q t ∷ h)
+      ≡ (if same s q p then option_map (λ x. saying (Some t) (reached t x)) (link_at s p h) else link_at s p h)
+  link_reaches p q n t h = link_later p (Happening.Reached n q t) h refl
+      ∙ reached_link (same s q p) t (link_at s p h)
 
   -- one by which the peer q of a link was heard
   pub link_hears : (p q : C) (n : ℕ) (t : Duration) (owed : ℕ) (cause : Cause) (outcome : Outcome C S)

@@ -2,7 +2,7 @@
 use Rattle.std.proofs.Common.{◌≡◌, ◌≤◌, ◌<◌, ◌+◌, ℕ, Bool, true, false, cond, List, [], ◌∷◌}
 use Rattle.std.proofs.Common.{Option, Some, None, refl, sym, ◌∙◌, ap, subst, arith}
 use Rattle.std.proofs.Common.{Less, Equal, Greater, inl, inr}
-use Rattle.std.specs.Prelude.{IfSome, IfNone, is_some, option_map, unwrap_or, length, if◌then◌else◌, max, nat_le, ◌&&◌}
+use Rattle.std.specs.Prelude.{IfSome, IfNone, is_some, option_map, unwrap_or, if◌then◌else◌, max, nat_le, ◌&&◌}
 use Rattle.std.specs.Duration.{as_nanos}
 use Rattle.std.proofs.lemmas.Bool.Decides.{nat_tests}
 use Rattle.std.specs.declared.cmp.Ordering.{Ordering}
@@ -17,14 +17,20 @@ use Rattle.std.specs.Ordering.{nat_cmp, eq_by_cmp, match_ordering, is_eq}
 use Rattle.std.specs.Cmp.{nat_cmp_is}
 use Rattle.std.proofs.lemmas.Bool.{cases_lt}
 use Rattle.std.proofs.lemmas.Cmp.{nat_cmp_total}
-use Rattle.std.proofs.lemmas.Map.{lookup-set_value, length-set_value}
+use Rattle.std.proofs.lemmas.Map.{lookup-set_value}
 use Rattle.std.proofs.lemmas.Map.Entries.{sum_by-remove_entry, sum_by-set_value, sum_by-insert_entry}
 use Rattle.p2p_driver.specs.declared.links.Asked.{Asked}
+use Rattle.p2p_driver.specs.declared.links.Direction.{Direction}
+use Rattle.p2p_driver.specs.declared.links.Direction.TheVariants.{Inbound, Dialing, Outbound}
 use Rattle.p2p_driver.specs.declared.links.Held.{Held}
 use Rattle.p2p_driver.specs.declared.links.Phase.{Phase}
 use Rattle.p2p_driver.specs.declared.links.Phase.TheVariants as phase
-use Rattle.p2p_driver.specs.Links.{link_of, need_of, need_at, needs, greeted, is_greeting, one_if_greeting, opened, hearing, asking, saying, closed, is_open, is_to_ask, to_ask}
-use Rattle.p2p_driver.specs.Links.{AreInverse, AreNumbered, AreAlike}
+use Rattle.p2p_driver.specs.Links.{link_of, need_of, need_at, needs, greeted, is_greeting, one_if_greeting, opened, asking, closed, is_open, is_to_ask, to_ask}
+use Rattle.p2p_driver.specs.Links.{AreInverse, AreNumbered, AreAlike, count_of, is_way, is_dialing}
+
+-- one, if it is so
+abbrev tally : Bool → ℕ
+tally b = cond b 1 0
 
 -- a number is equal to itself
 itself : (n : ℕ) → is_at (nat_cmp n) n ≡ true
@@ -91,8 +97,10 @@ module _ {C : Type 0} {cmp : C → C → Ordering} (total : IsTotalOrder cmp) wh
         ≡ cond (is_at (cmp peer) q) (option_map f (link_of cmp links q)) (link_of cmp links q)
     written_at q = ap (λ ls. link_of cmp ls q) is ∙ written links f peer held has q
 
-    pub written_count : length new ≡ length links
-    written_count = ap length is ∙ length-set_value (is_at (cmp peer)) links (f held)
+    pub written_counts : (way : Direction) → count_of way new + cond (is_way way held.direction) 1 0
+        ≡ count_of way links + cond (is_way way (f held).direction) 1 0
+    written_counts way = ap (λ ls. count_of way ls + cond (is_way way held.direction) 1 0) is
+        ∙ sum_by-set_value (λ h. cond (is_way way h.direction) 1 0) (is_at (cmp peer)) links held (f held) has
 
     pub written_needs : needs new + need_of held.phase ≡ needs links + need_of (f held).phase
     written_needs = ap (λ ls. needs ls + need_of held.phase) is
@@ -121,12 +129,16 @@ module _ {C : Type 0} {cmp : C → C → Ordering} (total : IsTotalOrder cmp) wh
         go None has = ap (λ ls. link_of cmp ls q) (none has) ∙ of_none has (is_at (cmp peer) q) refl
         go (Some held) has = written_at links new f peer held has (noted held has) q
 
-    pub noted_count : length new ≡ length links
-    noted_count = go (link_of cmp links peer) refl
+    pub noted_counts : ((held : Held) → (f held).direction ≡ held.direction) → (way : Direction) → count_of way new ≡ count_of way links
+    noted_counts same way = go (link_of cmp links peer) refl
       where
-        go : (o : Option Held) → link_of cmp links peer ≡ o → length new ≡ length links
-        go None has = ap length (none has)
-        go (Some held) has = written_count links new f peer held has (noted held has)
+        go : (o : Option Held) → link_of cmp links peer ≡ o → count_of way new ≡ count_of way links
+        go None has = ap (count_of way) (none has)
+        go (Some held) has = omega (
+          arith,
+          written_counts links new f peer held has (noted held has) way,
+          ap (λ x. tally (is_way way x)) (same held),
+        )
 
     pub noted_needs : ((held : Held) → need_of (f held).phase ≡ need_of held.phase) → needs new ≡ needs links
     noted_needs same = go (link_of cmp links peer) refl
@@ -212,9 +224,9 @@ module _ {C : Type 0} {cmp : C → C → Ordering} (total : IsTotalOrder cmp) wh
           omega (arith, one, none, sums, same)
 
   -- a frame is said on a link, or nothing changes
-  module _ (links new : List (C × Held)) (t : Duration) (peer : C) (result : Bool)
+  module _ (links new : List (C × Held)) (f : Held → Held) (peer : C) (result : Bool)
       (said : result ≡ true → (held : Held) → link_of cmp links peer ≡ Some held →
-      new ≡ set_value (is_at (cmp peer)) links (saying (Some t) held))
+      new ≡ set_value (is_at (cmp peer)) links (f held))
       (linked : result ≡ true → is_some (link_of cmp links peer) ≡ true) (same : result ≡ false → new ≡ links) where
     none : result ≡ true → link_of cmp links peer ≡ None → new ≡ links
     none is at = absurd (differ (sym (linked is) ∙ ap is_some at))
@@ -223,29 +235,85 @@ module _ {C : Type 0} {cmp : C → C → Ordering} (total : IsTotalOrder cmp) wh
         differ e = cc
 
     pub said_at : result ≡ true → (q : C) → link_of cmp new q
-        ≡ cond (is_at (cmp peer) q) (option_map (saying (Some t)) (link_of cmp links q)) (link_of cmp links q)
-    said_at is = noted_at links new (saying (Some t)) peer (said is) (none is)
+        ≡ cond (is_at (cmp peer) q) (option_map f (link_of cmp links q)) (link_of cmp links q)
+    said_at is = noted_at links new f peer (said is) (none is)
 
-    pub said_count : length new ≡ length links
-    said_count = go result refl
+    pub said_counts : ((held : Held) → (f held).direction ≡ held.direction) → (way : Direction) → count_of way new ≡ count_of way links
+    said_counts alike way = go result refl
       where
-        go : (b : Bool) → result ≡ b → length new ≡ length links
-        go true is = noted_count links new (saying (Some t)) peer (said is) (none is)
-        go false is = ap length (same is)
+        go : (b : Bool) → result ≡ b → count_of way new ≡ count_of way links
+        go true is = noted_counts links new f peer (said is) (none is) alike way
+        go false is = ap (count_of way) (same is)
 
-    pub said_needs : needs new ≡ needs links
-    said_needs = go result refl
+    -- .. and moves it from one kind to another
+    pub said_moves : result ≡ true → ((held : Held) → is_dialing held ≡ true → (f held).direction ≡ Outbound) →
+        IsSomeAnd (link_of cmp links peer) (λ h. is_dialing h ≡ true) → (way : Direction) →
+        count_of way new + (if is_way way Dialing then 1 else 0) ≡ count_of way links + (if is_way way Outbound then 1 else 0)
+    said_moves is moves dials way = go (link_of cmp links peer) refl dials
+      where
+        as_cond : (b : Bool) → tally b ≡ (if b then 1 else 0)
+        as_cond true = refl
+        as_cond false = refl
+
+        dialed : (d : Direction) → is_way Dialing d ≡ true → d ≡ Dialing
+        dialed Inbound is = cc
+        dialed Dialing is = refl
+        dialed Outbound is = cc
+
+        go : (o : Option Held) → link_of cmp links peer ≡ o → IsSomeAnd o (λ h. is_dialing h ≡ true) →
+            count_of way new + (if is_way way Dialing then 1 else 0) ≡ count_of way links + (if is_way way Outbound then 1 else 0)
+        go None has dials = absurd dials
+        go (Some held) has dials = omega (
+          arith,
+          written_counts links new f peer held has (said is held has) way,
+          ap (λ x. tally (is_way way x)) (dialed held.direction dials),
+          ap (λ x. tally (is_way way x)) (moves held dials),
+          as_cond (is_way way Dialing),
+          as_cond (is_way way Outbound),
+        )
+
+    pub said_needs : ((held : Held) → need_of (f held).phase ≡ need_of held.phase) → needs new ≡ needs links
+    said_needs alike = go result refl
       where
         go : (b : Bool) → result ≡ b → needs new ≡ needs links
-        go true is = noted_needs links new (saying (Some t)) peer (said is) (none is) (λ h. refl)
+        go true is = noted_needs links new f peer (said is) (none is) alike
         go false is = ap needs (same is)
 
-    pub said_to_ask : (tick now : ℕ) → to_ask tick now new ≡ to_ask tick now links
-    said_to_ask tick now = go result refl
+    pub said_to_ask : ((tick now : ℕ) (held : Held) → is_to_ask tick now (f held) ≡ is_to_ask tick now held) → (tick now : ℕ) → to_ask tick now new ≡ to_ask tick now links
+    said_to_ask alike tick now = go result refl
       where
         go : (b : Bool) → result ≡ b → to_ask tick now new ≡ to_ask tick now links
-        go true is = noted_to_ask tick now links new (saying (Some t)) peer (said is) (none is) (λ h. refl)
+        go true is = noted_to_ask tick now links new f peer (said is) (none is) (alike tick now)
         go false is = ap (to_ask tick now) (same is)
+
+  -- one more link is of one more kind
+  pub counts_put : (links new : List (C × Held)) (peer : C) (held : Held) →
+      IsStrictlySortedBy cmp (keys_of links) → link_of cmp links peer ≡ None →
+      new ≡ insert_entry cmp links peer held → (way : Direction) → count_of way new ≡ count_of way links + (if is_way way held.direction then 1 else 0)
+  counts_put links new peer held sorted none is way =
+      let e : counted_at (link_of cmp links peer) ≡ 0 = ap counted_at none in
+      ap (count_of way) is ∙ omega (arith, e, sum_by-insert_entry (λ h. cond (is_way way h.direction) 1 0) total links peer held sorted, as_cond (is_way way held.direction))
+    where
+      counted_at : Option Held → ℕ
+      counted_at o = unwrap_or (option_map (λ h. cond (is_way way h.direction) 1 0) o) 0
+
+      as_cond : (b : Bool) → tally b ≡ (if b then 1 else 0)
+      as_cond true = refl
+      as_cond false = refl
+
+  -- .. and one less
+  pub counts_removed : (links : List (C × Held)) (peer : C) (held : Held) → link_of cmp links peer ≡ Some held → (way : Direction) →
+      count_of way (remove_entry (is_at (cmp peer)) links) + (if is_way way held.direction then 1 else 0) ≡ count_of way links
+  counts_removed links peer held has way =
+      let e : counted_at (link_of cmp links peer) ≡ tally (is_way way held.direction) = ap counted_at has in
+      omega (arith, e, sum_by-remove_entry (λ h. cond (is_way way h.direction) 1 0) (is_at (cmp peer)) links, as_cond (is_way way held.direction))
+    where
+      counted_at : Option Held → ℕ
+      counted_at o = unwrap_or (option_map (λ h. cond (is_way way h.direction) 1 0) o) 0
+
+      as_cond : (b : Bool) → tally b ≡ (if b then 1 else 0)
+      as_cond true = refl
+      as_cond false = refl
 
   pub needs_put : (links new : List (C × Held)) (peer : C) (held : Held) →
       IsStrictlySortedBy cmp (keys_of links) → link_of cmp links peer ≡ None →
@@ -340,13 +408,13 @@ module _ {C : Type 0} {cmp : C → C → Ordering} (total : IsTotalOrder cmp) wh
         before false (Some g) h is = (g, refl, ap (λ o. unwrap_or (option_map (λ h. h.number) o) 0) is)
 
     -- .. on which a frame is said, or nothing changes
-    pub inverse_said : (new : List (C × Held)) (t : Duration) (peer : C) (result : Bool) →
-        (result ≡ true → (held : Held) → link_of cmp links peer ≡ Some held → new ≡ set_value (is_at (cmp peer)) links (saying (Some t) held)) →
+    pub inverse_said : (new : List (C × Held)) (f : Held → Held) (peer : C) (result : Bool) → ((h : Held) → (f h).number ≡ h.number) →
+        (result ≡ true → (held : Held) → link_of cmp links peer ≡ Some held → new ≡ set_value (is_at (cmp peer)) links (f held)) →
         (result ≡ true → is_some (link_of cmp links peer) ≡ true) → (result ≡ false → new ≡ links) → AreInverse cmp new at
-    inverse_said new t peer result said linked same = go result refl
+    inverse_said new f peer result numbers said linked same = go result refl
       where
         go : (b : Bool) → result ≡ b → AreInverse cmp new at
-        go true is = inverse_on new (saying (Some t)) peer (λ h. refl) (said_at links new t peer result said linked same is)
+        go true is = inverse_on new f peer numbers (said_at links new f peer result said linked same is)
         go false is = subst (λ ls. AreInverse cmp ls at) (sym (same is)) inverse
 
     -- one more link

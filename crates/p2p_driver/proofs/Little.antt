@@ -78,7 +78,7 @@ module _ {C : Type 0} where
 
   answered_few : {S : Type 0} (n : ℕ) (p : C) (x : Outcome C S) (o : Option Held) → length (answered_on n p x o) ≤ 3
   answered_few n p (Outcome.Waits waiting) o = omega arith
-  answered_few n p (Outcome.Greets info question) o = let few = asked_few C n question in omega (arith, few)
+  answered_few n p (Outcome.Greets dialer info question) o = let few = asked_few C n question in omega (arith, few)
   answered_few n p (Outcome.Takes infos) o = omega arith
   answered_few n p (Outcome.Answers reply) o = omega arith
   answered_few n p (Outcome.Delivers message) o = omega arith
@@ -130,7 +130,11 @@ module _ {C S : Type 0} (b : Base C S) (h : List (Happening C S)) where
   few_said (Happening.Proved n p t draw) is = omega arith
   few_said (Happening.Unproved n p t w) is = omega arith
   few_said (Happening.Left n t) is = omega arith
-  few_said (Happening.Ended n p t) is = let few = parted_few p (link_at d p h) in omega (arith, few)
+  few_said (Happening.Dialed n p t draw word ingress) is = omega arith
+  few_said (Happening.Undialed t) is = omega arith
+  few_said (Happening.Reached n p t) is = omega arith
+  few_said (Happening.Mistaken n p t) is = let few = shut_few p why.WrongKey (link_at d p h) in omega (arith, few)
+  few_said (Happening.Ended n p t direction) is = let few = parted_few p (link_at d p h) in omega (arith, few)
   few_said (Happening.SetCame t index primary secondary torn) is = absurd cc
   few_said (Happening.StaleSetCame index primary secondary) is = omega arith
   few_said (Happening.StreamLate n t) is = omega arith

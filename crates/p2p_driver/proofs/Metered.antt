@@ -17,6 +17,7 @@ use Rattle.p2p_driver.specs.Meters.{MetersView}
 use Rattle.p2p_driver.specs.Reading.{is_of, kind_at_rate, rate_at, begins_as, ends_as, read_by, read_in, IsMetered, IsMeteredIf, IsMeteredSince, AreMetered}
 use Rattle.p2p_driver.specs.Reads.{reads_of, unread, kept_in, Takes}
 use Rattle.p2p_driver.specs.declared.heads.Kind.{Kind}
+use Rattle.p2p_driver.specs.declared.links.Direction.{Direction}
 use Rattle.p2p_driver.specs.declared.heads.Kind.TheVariants as kind
 use Rattle.p2p_driver.specs.declared.pace.Pace.{Pace}
 use Rattle.p2p_driver.specs.declared.rate.Rate.{Rate}
@@ -117,14 +118,13 @@ module _ {C S : Type 0} (pace : Pace) where
     kept = λ place rate has. subst (IsKeptAt rate now []) (sym (kept_zero place k)) (kept_empty _ _ now);
   }
 
-  pub metered_begins : (now n k : ℕ) (p : C) (t draw : Duration) (h : List (Happening C S)) (reads reads2 : List (ℕ × MetersView)) →
+  pub metered_begins : (now n k : ℕ) (t : Duration) (e : Happening C S) → ((j : ℕ) → begins_as j e ≡ (if n == j then Some t else None)) →
+      ((j : ℕ) → ends_as j e ≡ false) → ((j : ℕ) (place : Option ℕ) → read_by j place e ≡ []) → (h : List (Happening C S)) (reads reads2 : List (ℕ × MetersView)) →
       k ≡ length pace.channels.items + length pace.channels.items → ((j : ℕ) → reads_of reads2 j ≡ (if j == n then Some (unread k) else reads_of reads j)) →
-      AreMetered pace now h reads → AreMetered pace now (Happening.Proved n p t draw ∷ h) reads2
-  metered_begins now n k p t draw h reads reads2 is tied kept j = go (n == j) refl
+      AreMetered pace now h reads → AreMetered pace now (e ∷ h) reads2
+  metered_begins now n k t e starts over none h reads reads2 is tied kept j =
+      subst (λ o. IsMeteredSince pace now j (found_with o e (last_with (begins_as j) h)) (reads_of reads2 j)) (sym (starts j)) (go (n == j) refl)
     where
-      e : Happening C S
-      e = Happening.Proved n p t draw
-
       go : (b : Bool) → (n == j) ≡ b → IsMeteredSince pace now j (found_with (if b then Some t else None) e (last_with (begins_as j) h)) (reads_of reads2 j)
       go true same = subst (λ o. IsSomeAnd o (IsMetered {C = C} {S = S} pace now j [])) (sym (tied j ∙ ap (λ b. if b then Some (unread k) else reads_of reads j) other))
           (none_read now j k is)
@@ -141,16 +141,17 @@ module _ {C S : Type 0} (pace : Pace) where
           stays : (found : Option (Duration × List (Happening C S))) → IsMeteredSince pace now j found (reads_of reads j) →
               IsMeteredSince pace now j (found_with None e found) (reads_of reads j)
           stays None kept = kept
-          stays (Some found) kept = if_stays (list_any (ends_as j) found.1) now j e found.1 (reads_of reads j) (λ place. refl) kept
+          stays (Some found) kept = subst (λ b. IsMeteredIf (b || list_any (ends_as j) found.1) pace now j (e ∷ found.1) (reads_of reads j)) (sym (over j))
+              (if_stays (list_any (ends_as j) found.1) now j e found.1 (reads_of reads j) (none j) kept)
 
   -- NOTHING IS KEPT of a link that ended
-  pub metered_ends : (now n : ℕ) (p : C) (t : Duration) (h : List (Happening C S)) (reads reads2 : List (ℕ × MetersView)) →
+  pub metered_ends : (now n : ℕ) (p : C) (t : Duration) (direction : Direction) (h : List (Happening C S)) (reads reads2 : List (ℕ × MetersView)) →
       ((j : ℕ) → reads_of reads2 j ≡ (if j == n then None else reads_of reads j)) →
-      AreMetered pace now h reads → AreMetered pace now (Happening.Ended n p t ∷ h) reads2
-  metered_ends now n p t h reads reads2 tied kept j = go (n == j) refl
+      AreMetered pace now h reads → AreMetered pace now (Happening.Ended n p t direction ∷ h) reads2
+  metered_ends now n p t direction h reads reads2 tied kept j = go (n == j) refl
     where
       e : Happening C S
-      e = Happening.Ended n p t
+      e = Happening.Ended n p t direction
 
       go : (b : Bool) → (n == j) ≡ b → IsMeteredSince pace now j (found_with None e (last_with (begins_as j) h)) (reads_of reads2 j)
       go true same = gone (last_with (begins_as j) h)

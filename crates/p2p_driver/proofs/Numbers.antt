@@ -6,6 +6,7 @@ use Rattle.std.proofs.lemmas.Map.Views.{tells_apart}
 use Rattle.std.proofs.lemmas.Map.Lookups.{CmpEqualImpliesEq}
 use Rattle.std.specs.Prelude.{if◌then◌else◌, is_some}
 use Rattle.std.specs.declared.time.Duration.{Duration}
+use Rattle.p2p_discovery.specs.declared.types.ingress.Ingress.{Ingress}
 use Rattle.p2p_tracker.specs.Calls.{Settings}
 use Rattle.p2p_tracker.specs.History.{same}
 use Rattle.p2p_driver.specs.declared.arrivals.Arrival.{Arrival}
@@ -13,10 +14,10 @@ use Rattle.p2p_driver.specs.declared.links.Held.{Held}
 use Rattle.p2p_driver.specs.declared.origin.Origin.{Origin}
 use Rattle.p2p_driver.specs.Arrivals.{has_number}
 use Rattle.p2p_driver.specs.Happenings.{Happening, next_at, stream_at, came_by, leaves_by, claim_by, opened_by, ends_by, is_new}
-use Rattle.p2p_driver.specs.Links.{link_with}
+use Rattle.p2p_driver.specs.Links.{link_with, dial_with}
 use Rattle.p2p_driver.specs.Drivers.{Base, AreRight, Rise, link, is_claimed, is_claim_by}
 use Rattle.p2p_driver.proofs.Budget.{streams_of}
-use Rattle.p2p_driver.proofs.LinkHistory.{Touch, touch_by, link_after, link_later, link_opens}
+use Rattle.p2p_driver.proofs.LinkHistory.{Touch, touch_by, link_after, link_later, link_opens, link_dials}
 use Rattle.p2p_driver.proofs.StreamHistory.{stream_after, stream_later, next_stays, next_rises}
 
 some_is : {A : Type 0} {x y : A} → Some x ≡ Some y → x ≡ y
@@ -95,6 +96,19 @@ module _ {C S : Type 0} (b : Base C S) where
       let was_over = over was.0 was.1 in
       subst (IsOver (e ∷ h)) was.2 (still_over e h was.0.number (none was.0.number was_over.1) was_over)
 
+  -- no stream has the next number
+  next_is_over : (e : Happening C S) (h : List (Happening C S)) → AreRight b h → (n : ℕ) → n ≡ next_at h → is_new e ≡ true →
+      came_by n e ≡ None → leaves_by n e ≡ false → claim_by n e ≡ None → IsOver (e ∷ h) n
+  next_is_over e h right n next new none leaves claim = (
+    stream_later n e h none ∙ ap (λ x. stream_after x (claim_by n e) (stream_at n h)) leaves
+        ∙ ap (λ o. stream_after false o (stream_at n h)) claim ∙ go (stream_at n h) (number_below h right n),
+    omega (arith, next_rises e h new, next),
+  )
+    where
+      go : (o : Option (Arrival C)) → (is_some o ≡ true → n < next_at h) → stream_after false None o ≡ None
+      go None below = refl
+      go (Some a) below = let less = below refl in absurd (omega (arith, less, next))
+
   -- the stream of each link came, and left
   pub over : (h : List (Happening C S)) → AreRight b h → (p : C) (g : Held) → link b p h ≡ Some g → IsOver h g.number
   over [] right p g is = absurd cc
@@ -132,7 +146,21 @@ module _ {C S : Type 0} (b : Base C S) where
       go false is rest = still_over e h g.number refl (rest is)
   over (Happening.Unproved n r t why ∷ h) right p g is = step (Happening.Unproved n r t why) h p refl (λ n below. refl) (λ g is. over h right.2 p g is) g is
   over (Happening.Left n t ∷ h) right p g is = step (Happening.Left n t) h p refl (λ n below. refl) (λ g is. over h right.2 p g is) g is
-  over (Happening.Ended n r t ∷ h) right p g is = step (Happening.Ended n r t) h p refl (λ n below. refl) (λ g is. over h right.2 p g is) g is
+  over (Happening.Dialed n r t draw word ingress ∷ h) right p g is =
+      go (same d r p) (sym (link_dials d p r n t draw word ingress h) ∙ is) (λ is. over h right.2 p g is)
+    where
+      e : Happening C S
+      e = Happening.Dialed n r t draw word ingress
+
+      go : (x : Bool) → (if x then Some (dial_with n t) else link b p h) ≡ Some g →
+          (link b p h ≡ Some g → IsOver h g.number) → IsOver (e ∷ h) g.number
+      go true is rest = subst (IsOver (e ∷ h)) (ap (λ (x : Held). x.number) (some_is is))
+          (next_is_over e h right.2 n right.0.number refl refl refl refl)
+      go false is rest = still_over e h g.number refl (rest is)
+  over (Happening.Undialed t ∷ h) right p g is = step (Happening.Undialed t) h p refl (λ n below. refl) (λ g is. over h right.2 p g is) g is
+  over (Happening.Reached n r t ∷ h) right p g is = step (Happening.Reached n r t) h p refl (λ n below. refl) (λ g is. over h right.2 p g is) g is
+  over (Happening.Mistaken n r t ∷ h) right p g is = step (Happening.Mistaken n r t) h p refl (λ n below. refl) (λ g is. over h right.2 p g is) g is
+  over (Happening.Ended n r t direction ∷ h) right p g is = step (Happening.Ended n r t direction) h p refl (λ n below. refl) (λ g is. over h right.2 p g is) g is
   over (Happening.SetCame t index primary secondary torn ∷ h) right p g is = step (Happening.SetCame t index primary secondary torn) h p refl (λ n below. refl) (λ g is. over h right.2 p g is) g is
   over (Happening.StaleSetCame index primary secondary ∷ h) right p g is = step (Happening.StaleSetCame index primary secondary) h p refl (λ n below. refl) (λ g is. over h right.2 p g is) g is
   over (Happening.StreamLate n t ∷ h) right p g is = step (Happening.StreamLate n t) h p refl (λ n below. refl) (λ g is. over h right.2 p g is) g is
@@ -178,6 +206,29 @@ module _ {C S : Type 0} (b : Base C S) where
             absurd (not_over h n g.number (number_is k at_q ∙ sym is) there (is_over p g at_p))
         go false false is_p is_q at_p at_q = one p q g k at_p at_q is
 
+    dialled : (n : ℕ) (r : C) (t draw : Duration) (word : ℕ) (ingress : Ingress) (h : List (Happening C S)) → n ≡ next_at h →
+        ((p : C) (g : Held) → link b p h ≡ Some g → IsOver h g.number) → AreNumbered h →
+        AreNumbered (Happening.Dialed n r t draw word ingress ∷ h)
+    dialled n r t draw word ingress h next is_over one p q g k of_p of_q is =
+        go (same d r p) (same d r q) refl refl (sym (link_dials d p r n t draw word ingress h) ∙ of_p)
+        (sym (link_dials d q r n t draw word ingress h) ∙ of_q)
+      where
+        new : Held
+        new = dial_with n t
+
+        number_is : (x : Held) → Some new ≡ Some x → n ≡ x.number
+        number_is x is = ap (λ (y : Held). y.number) (some_is is)
+
+        not_next : (m : ℕ) → n ≡ m → IsOver h m → ⊥
+        not_next m is over = let less = over.1 in omega (arith, less, is, next)
+
+        go : (x y : Bool) → same d r p ≡ x → same d r q ≡ y →
+            (if x then Some new else link b p h) ≡ Some g → (if y then Some new else link b q h) ≡ Some k → same d p q ≡ true
+        go true true is_p is_q at_p at_q = subst (λ x. same d x q ≡ true) (tells_apart exact r p is_p) is_q
+        go true false is_p is_q at_p at_q = absurd (not_next k.number (number_is g at_p ∙ is) (is_over q k at_q))
+        go false true is_p is_q at_p at_q = absurd (not_next g.number (number_is k at_q ∙ sym is) (is_over p g at_p))
+        go false false is_p is_q at_p at_q = one p q g k at_p at_q is
+
     pub one_number : (h : List (Happening C S)) → AreRight b h → AreNumbered h
     one_number [] right = λ p q g k of_p of_q is. absurd (no_link g of_p)
     one_number (Happening.Arrived n origin t space ∷ h) right = still (Happening.Arrived n origin t space) h (λ p. refl) (one_number h right.2)
@@ -187,7 +238,12 @@ module _ {C S : Type 0} (b : Base C S) where
         opened n r t draw h (claimed_is_there h n r right.0.0) (over h right.2) (one_number h right.2)
     one_number (Happening.Unproved n r t why ∷ h) right = still (Happening.Unproved n r t why) h (λ p. refl) (one_number h right.2)
     one_number (Happening.Left n t ∷ h) right = still (Happening.Left n t) h (λ p. refl) (one_number h right.2)
-    one_number (Happening.Ended n r t ∷ h) right = still (Happening.Ended n r t) h (λ p. refl) (one_number h right.2)
+    one_number (Happening.Dialed n r t draw word ingress ∷ h) right =
+        dialled n r t draw word ingress h right.0.number (over h right.2) (one_number h right.2)
+    one_number (Happening.Undialed t ∷ h) right = still (Happening.Undialed t) h (λ p. refl) (one_number h right.2)
+    one_number (Happening.Reached n r t ∷ h) right = still (Happening.Reached n r t) h (λ p. refl) (one_number h right.2)
+    one_number (Happening.Mistaken n r t ∷ h) right = still (Happening.Mistaken n r t) h (λ p. refl) (one_number h right.2)
+    one_number (Happening.Ended n r t direction ∷ h) right = still (Happening.Ended n r t direction) h (λ p. refl) (one_number h right.2)
     one_number (Happening.SetCame t index primary secondary torn ∷ h) right = still (Happening.SetCame t index primary secondary torn) h (λ p. refl) (one_number h right.2)
     one_number (Happening.StaleSetCame index primary secondary ∷ h) right = still (Happening.StaleSetCame index primary secondary) h (λ p. refl) (one_number h right.2)
     one_number (Happening.StreamLate n t ∷ h) right = still (Happening.StreamLate n t) h (λ p. refl) (one_number h right.2)

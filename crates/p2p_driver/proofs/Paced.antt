@@ -98,7 +98,7 @@ module _ {C S : Type 0} (b : Base C S) (n : ℕ) (place : Option ℕ) (rate : Ra
     of_cause held (Cause.OfFrame frame wall) is paced = absurd cc
     of_cause held (Cause.OfVerdicts verdicts) is paced = absurd cc
     of_cause held (Cause.OfHead longest head size) is paced =
-        of_kind (kind_of longest b.pace.channels.items b.made.limits (is_open held.phase) head size) (looked_of head size) paced
+        of_kind (kind_of longest b.pace.channels.items b.made.limits (is_open held.phase) head size) (looked_of head size) paced.1
 
   may_be_read : (m : ℕ) (p : C) (t : Duration) (owed : ℕ) (c : Cause) (k : Kind) (looked : LookedView) (h : List (Happening C S)) →
       IsRight b h (Happening.Heard m p t owed c (Outcome.Reads k looked)) → (m == n) ≡ true → is_of place k ≡ true →
@@ -144,15 +144,13 @@ module _ {C S : Type 0} (b : Base C S) (n : ℕ) (place : Option ℕ) (rate : Ra
       go None = ap (λ o. reads_in (found_with o e None)) begins
       go (Some found) = ap (λ o. reads_in (found_with o e (Some found))) begins ∙ ap (λ xs. xs ++ read_in n place found.1) none
 
-  begun : (m : ℕ) (p : C) (t draw : Duration) (h : List (Happening C S)) → MakesAfter (Happening.Proved m p t draw) h
-  begun m p t draw h = go (m == n) refl
+  begun : (m : ℕ) (t : Duration) (e : Happening C S) (h : List (Happening C S)) → begins_as n e ≡ (if m == n then Some t else None) →
+      read_by n place e ≡ [] → MakesAfter e h
+  begun m t e h begins none = go (m == n) refl
     where
-      e : Happening C S
-      e = Happening.Proved m p t draw
-
       go : (x : Bool) → (m == n) ≡ x → MakesAfter e h
-      go true is = inl (ap (λ x. reads_in (found_with (if x then Some t else None) e (last_with (begins_as n) h))) is)
-      go false is = stays e h (ap (λ x. if x then Some t else None) is) refl
+      go true is = inl (ap (λ o. reads_in (found_with o e (last_with (begins_as n) h))) (begins ∙ ap (λ x. if x then Some t else None) is))
+      go false is = stays e h (begins ∙ ap (λ x. if x then Some t else None) is) none
 
   reads : (m : ℕ) (p : C) (t : Duration) (owed : ℕ) (c : Cause) (k : Kind) (looked : LookedView) (h : List (Happening C S)) →
       IsRight b h (Happening.Heard m p t owed c (Outcome.Reads k looked)) → MakesAfter (Happening.Heard m p t owed c (Outcome.Reads k looked)) h
@@ -194,7 +192,7 @@ module _ {C S : Type 0} (b : Base C S) (n : ℕ) (place : Option ℕ) (rate : Ra
   hears : (m : ℕ) (p : C) (t : Duration) (owed : ℕ) (c : Cause) (x : Outcome C S) (h : List (Happening C S)) →
       IsRight b h (Happening.Heard m p t owed c x) → MakesAfter (Happening.Heard m p t owed c x) h
   hears m p t owed c (Outcome.Waits w) h right = stays (Happening.Heard m p t owed c (Outcome.Waits w)) h refl refl
-  hears m p t owed c (Outcome.Greets info question) h right = stays (Happening.Heard m p t owed c (Outcome.Greets info question)) h refl refl
+  hears m p t owed c (Outcome.Greets dialer info question) h right = stays (Happening.Heard m p t owed c (Outcome.Greets dialer info question)) h refl refl
   hears m p t owed c (Outcome.Takes infos) h right = stays (Happening.Heard m p t owed c (Outcome.Takes infos)) h refl refl
   hears m p t owed c (Outcome.Answers reply) h right = stays (Happening.Heard m p t owed c (Outcome.Answers reply)) h refl refl
   hears m p t owed c (Outcome.Delivers message) h right = stays (Happening.Heard m p t owed c (Outcome.Delivers message)) h refl refl
@@ -209,10 +207,14 @@ module _ {C S : Type 0} (b : Base C S) (n : ℕ) (place : Option ℕ) (rate : Ra
   makes (Happening.Arrived m origin t space) h right = stays (Happening.Arrived m origin t space) h refl refl
   makes (Happening.Claimed m q origin t) h right = stays (Happening.Claimed m q origin t) h refl refl
   makes (Happening.Refused m q t why) h right = stays (Happening.Refused m q t why) h refl refl
-  makes (Happening.Proved m q t draw) h right = begun m q t draw h
+  makes (Happening.Proved m q t draw) h right = begun m t (Happening.Proved m q t draw) h refl refl
   makes (Happening.Unproved m q t why) h right = stays (Happening.Unproved m q t why) h refl refl
   makes (Happening.Left m t) h right = stays (Happening.Left m t) h refl refl
-  makes (Happening.Ended m q t) h right = stays (Happening.Ended m q t) h refl refl
+  makes (Happening.Dialed m q t draw word ingress) h right = begun m t (Happening.Dialed m q t draw word ingress) h refl refl
+  makes (Happening.Undialed t) h right = stays (Happening.Undialed t) h refl refl
+  makes (Happening.Reached m q t) h right = stays (Happening.Reached m q t) h refl refl
+  makes (Happening.Mistaken m q t) h right = stays (Happening.Mistaken m q t) h refl refl
+  makes (Happening.Ended m q t direction) h right = stays (Happening.Ended m q t direction) h refl refl
   makes (Happening.SetCame t index primary secondary torn) h right = stays (Happening.SetCame t index primary secondary torn) h refl refl
   makes (Happening.StaleSetCame index primary secondary) h right = stays (Happening.StaleSetCame index primary secondary) h refl refl
   makes (Happening.StreamLate m t) h right = stays (Happening.StreamLate m t) h refl refl
@@ -311,7 +313,7 @@ module _ {C S : Type 0} (pace : Pace) (h : List (Happening C S)) (n now : ℕ) w
       inl (ap (λ q. Outcome.Reads q looked) comes.0 ∙ ap (Outcome.Reads (kind_at_rate place)) comes.1, comes.2)
   turns place l (Outcome.Delays next) comes = inr (next, refl, comes)
   turns place l (Outcome.Waits w) comes = absurd comes
-  turns place l (Outcome.Greets info question) comes = absurd comes
+  turns place l (Outcome.Greets dialer info question) comes = absurd comes
   turns place l (Outcome.Takes infos) comes = absurd comes
   turns place l (Outcome.Answers reply) comes = absurd comes
   turns place l (Outcome.Delivers message) comes = absurd comes
@@ -341,7 +343,7 @@ module _ {C S : Type 0} (pace : Pace) (h : List (Happening C S)) (n now : ℕ) w
   breaks l (Outcome.Breaks breach.Malformed blocked) comes = absurd comes
   breaks l (Outcome.Breaks (breach.Invalid e) blocked) comes = absurd comes
   breaks l (Outcome.Waits w) comes = absurd comes
-  breaks l (Outcome.Greets info question) comes = absurd comes
+  breaks l (Outcome.Greets dialer info question) comes = absurd comes
   breaks l (Outcome.Takes infos) comes = absurd comes
   breaks l (Outcome.Answers reply) comes = absurd comes
   breaks l (Outcome.Delivers message) comes = absurd comes
@@ -360,7 +362,7 @@ module _ {C S : Type 0} (pace : Pace) (h : List (Happening C S)) (n now : ℕ) w
   too_long l (Outcome.Breaks breach.Malformed blocked) comes = absurd comes
   too_long l (Outcome.Breaks (breach.Invalid e) blocked) comes = absurd comes
   too_long l (Outcome.Waits w) comes = absurd comes
-  too_long l (Outcome.Greets info question) comes = absurd comes
+  too_long l (Outcome.Greets dialer info question) comes = absurd comes
   too_long l (Outcome.Takes infos) comes = absurd comes
   too_long l (Outcome.Answers reply) comes = absurd comes
   too_long l (Outcome.Delivers message) comes = absurd comes
@@ -374,7 +376,7 @@ module _ {C S : Type 0} (pace : Pace) (h : List (Happening C S)) (n now : ℕ) w
   no_channel l Outcome.LacksChannel comes = refl
   no_channel l (Outcome.Breaks broken blocked) comes = absurd comes
   no_channel l (Outcome.Waits w) comes = absurd comes
-  no_channel l (Outcome.Greets info question) comes = absurd comes
+  no_channel l (Outcome.Greets dialer info question) comes = absurd comes
   no_channel l (Outcome.Takes infos) comes = absurd comes
   no_channel l (Outcome.Answers reply) comes = absurd comes
   no_channel l (Outcome.Delivers message) comes = absurd comes
@@ -387,7 +389,7 @@ module _ {C S : Type 0} (pace : Pace) (h : List (Happening C S)) (n now : ℕ) w
   greeting l (Outcome.Reads k looked) comes = ap (λ q. Outcome.Reads q looked) comes.0 ∙ ap (Outcome.Reads kind.Greeting) comes.1
   greeting l (Outcome.Breaks broken blocked) comes = absurd comes
   greeting l (Outcome.Waits w) comes = absurd comes
-  greeting l (Outcome.Greets info question) comes = absurd comes
+  greeting l (Outcome.Greets dialer info question) comes = absurd comes
   greeting l (Outcome.Takes infos) comes = absurd comes
   greeting l (Outcome.Answers reply) comes = absurd comes
   greeting l (Outcome.Delivers message) comes = absurd comes
@@ -416,8 +418,8 @@ one_head {C} {S} b h n m p t owed other c x y is one two = go (link b p h) one t
     of_cause held (Cause.OfVerdicts verdicts) is same one two = absurd cc
     of_cause held (Cause.OfHead longest head size) is same one two =
         one_kind b.pace h n (as_nanos t) (kind_of longest b.pace.channels.items b.made.limits (is_open held.phase) head size)
-        (looked_of head size) x y one
-        (subst (λ j. IsPaced b.pace h j (as_nanos t) b.made.limits held (Cause.OfHead longest head size) y) same two)
+        (looked_of head size) x y one.1
+        (subst (λ j. IsPaced b.pace h j (as_nanos t) b.made.limits held (Cause.OfHead longest head size) y) same two).1
 
     go : (o : Option Held) → IsSomeAnd o (IsHeard b h n p t owed c x) → IsSomeAnd o (IsHeard b h m p t other c y) → bare x ≡ bare y
     go None one two = absurd one

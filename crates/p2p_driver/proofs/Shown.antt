@@ -134,7 +134,7 @@ module _ (given : Pace) (two : 2 ≤ non_zero_u32_get given.burst) where
   greeting_waits = heard 2 0 (frame hello) (Outcome.Waits (waits hello)) ∷ greeting_read
 
   abbrev greeted : List (Happening ℕ ℕ)
-  greeted = heard 3 1 (Cause.OfVerdicts (true ∷ [])) (Outcome.Greets greeter (Some (asking (having true false)))) ∷ greeting_waits
+  greeted = heard 3 1 (Cause.OfVerdicts (true ∷ [])) (Outcome.Greets false greeter (Some (asking (having true false)))) ∷ greeting_waits
 
   abbrev told : List (Happening ℕ ℕ)
   told = Happening.Taken (action.Told (event.Up (record { 0 = 1 }) 1)) ∷ greeted
@@ -213,7 +213,7 @@ module _ (given : Pace) (two : 2 ≤ non_zero_u32_get given.burst) where
   greeting_read_right : AreRight b greeting_read
   unfolding groups spellings
   greeting_read_right = (
-    record { number = refl; comes = refl; owes = refl; done = tt; paced = (refl, refl); room = tt },
+    record { number = refl; dials = tt; comes = refl; owes = refl; done = tt; paced = (refl, (refl, refl)); room = tt },
     omega arith,
     written_right,
   )
@@ -221,7 +221,7 @@ module _ (given : Pace) (two : 2 ≤ non_zero_u32_get given.burst) where
   waits_right : AreRight b greeting_waits
   unfolding payload_at body_at length_at groups groups_at texts.info_at ingress_at ip_at socket_at
   waits_right = (
-    record { number = refl; comes = ((refl, refl), (greeter, refl, refl, refl, refl)); owes = refl; done = tt; paced = refl; room = tt },
+    record { number = refl; dials = tt; comes = ((refl, refl), (greeter, refl, refl, refl, refl)); owes = refl; done = tt; paced = refl; room = tt },
     omega arith,
     greeting_read_right,
   )
@@ -229,7 +229,7 @@ module _ (given : Pace) (two : 2 ≤ non_zero_u32_get given.burst) where
   greeted_right : AreRight b greeted
   unfolding life payload_at body_at length_at groups groups_at texts.info_at ingress_at ip_at socket_at spellings packed
   greeted_right = (
-    record { number = refl; comes = (refl, (refl, refl)); owes = refl; done = (refl, refl, (0, refl, refl)); paced = tt; room = refl },
+    record { number = refl; dials = refl; comes = (refl, (refl, refl)); owes = refl; done = (refl, refl, (0, refl, refl)); paced = tt; room = refl },
     omega arith,
     waits_right,
   )
@@ -259,7 +259,7 @@ module _ (given : Pace) (two : 2 ≤ non_zero_u32_get given.burst) where
   message_read_right : AreRight b message_read
   unfolding groups groups_at
   message_read_right = (
-    record { number = refl; comes = refl; owes = refl; done = tt; paced = (refl, refl, λ k a is. absurd cc); room = tt },
+    record { number = refl; dials = tt; comes = refl; owes = refl; done = tt; paced = (refl, (refl, refl, λ k a is. absurd cc)); room = tt },
     omega arith,
     spoken_right,
   )
@@ -267,7 +267,7 @@ module _ (given : Pace) (two : 2 ≤ non_zero_u32_get given.burst) where
   delivered_right : AreRight b delivered
   unfolding payload_at body_at data_at message_at length_at groups groups_at
   delivered_right = (
-    record { number = refl; comes = (refl, refl, refl); owes = refl; done = tt; paced = refl; room = tt },
+    record { number = refl; dials = tt; comes = (refl, refl, refl); owes = refl; done = tt; paced = refl; room = tt },
     omega arith,
     message_read_right,
   )
@@ -275,7 +275,7 @@ module _ (given : Pace) (two : 2 ≤ non_zero_u32_get given.burst) where
   list_read_right : AreRight b list_read
   unfolding groups groups_at spellings
   list_read_right = (
-    record { number = refl; comes = refl; owes = refl; done = tt; paced = (refl, refl, λ k a is. absurd cc); room = tt },
+    record { number = refl; dials = tt; comes = refl; owes = refl; done = tt; paced = (refl, (refl, refl, λ k a is. absurd cc)); room = tt },
     omega arith,
     delivered_right,
   )
@@ -285,6 +285,7 @@ module _ (given : Pace) (two : 2 ≤ non_zero_u32_get given.burst) where
   list_waits_right = (
     record {
       number = refl;
+      dials = tt;
       comes = (refl, refl, ((refl, refl), (signed 2 100000 ∷ [], refl, refl, refl, omega arith)));
       owes = refl;
       done = tt;
@@ -298,7 +299,7 @@ module _ (given : Pace) (two : 2 ≤ non_zero_u32_get given.burst) where
   listed_right : AreRight b listed
   unfolding payload_at body_at length_at groups groups_at texts.info_at ingress_at ip_at socket_at spellings elems items_at list_at
   listed_right = (
-    record { number = refl; comes = (refl, (refl, refl)); owes = refl; done = tt; paced = tt; room = tt },
+    record { number = refl; dials = tt; comes = (refl, (refl, refl)); owes = refl; done = tt; paced = tt; room = tt },
     omega arith,
     list_waits_right,
   )
@@ -317,7 +318,7 @@ module _ (given : Pace) (two : 2 ≤ non_zero_u32_get given.burst) where
   question_read_right : AreRight b question_read
   unfolding groups groups_at packed spellings
   question_read_right = (
-    record { number = refl; comes = refl; owes = refl; done = tt; paced = (refl, refl, after_one); room = tt },
+    record { number = refl; dials = tt; comes = refl; owes = refl; done = tt; paced = (refl, (refl, refl, after_one)); room = tt },
     omega arith,
     listed_right,
   )
@@ -327,6 +328,7 @@ module _ (given : Pace) (two : 2 ≤ non_zero_u32_get given.burst) where
   answered_right = (
     record {
       number = refl;
+      dials = tt;
       comes = (refl, refl, (record { index = 0; bits = false ∷ false ∷ [] }, greeter ∷ [], refl, refl, refl));
       owes = refl;
       done = tt;
@@ -348,7 +350,7 @@ module _ (given : Pace) (two : 2 ≤ non_zero_u32_get given.burst) where
   second_read_right : AreRight b second_read
   unfolding groups groups_at packed spellings
   second_read_right = (
-    record { number = refl; comes = refl; owes = refl; done = tt; paced = (refl, refl, after_two); room = tt },
+    record { number = refl; dials = tt; comes = refl; owes = refl; done = tt; paced = (refl, (refl, refl, after_two)); room = tt },
     omega arith,
     asked_again_right,
   )
@@ -357,7 +359,7 @@ module _ (given : Pace) (two : 2 ≤ non_zero_u32_get given.burst) where
   pub right : AreRight b broken
   unfolding life
   right = (
-    record { number = refl; comes = refl; owes = refl; done = refl; paced = refl; room = tt },
+    record { number = refl; dials = tt; comes = refl; owes = refl; done = refl; paced = refl; room = tt },
     omega arith,
     second_read_right,
   )

@@ -7,12 +7,13 @@ use Rattle.std.specs.declared.time.Duration.{Duration}
 use Rattle.std.proofs.lemmas.Map.Views.{tells_apart}
 use Rattle.std.proofs.lemmas.Map.Lookups.{CmpEqualImpliesEq}
 use Rattle.p2p_discovery.specs.declared.discovery.Info.{Info}
+use Rattle.p2p_discovery.specs.declared.types.ingress.Ingress.{Ingress}
 use Rattle.p2p_tracker.specs.declared.record.Status.{Status}
 use Rattle.p2p_tracker.specs.declared.record.Status.TheVariants.{Inert, Reserved, Active}
-use Rattle.p2p_tracker.specs.Answers.{may_connect}
+use Rattle.p2p_tracker.specs.Answers.{may_connect, was_granted}
 use Rattle.p2p_tracker.specs.Blocks.{is_blocked}
 use Rattle.p2p_tracker.specs.Calls.{Settings, Call, SetAt, Grant}
-use Rattle.p2p_tracker.specs.Calls.Call.{Track, Listen, Connect, Release, Update, Block, UnblockExpired, ForgetCooled}
+use Rattle.p2p_tracker.specs.Calls.Call.{Track, Dial, Listen, Connect, Release, Update, Block, UnblockExpired, ForgetCooled}
 use Rattle.p2p_tracker.specs.Calls.Event.{Nothing, SetTaken, Blocked}
 use Rattle.p2p_tracker.specs.History.{same, is_own, last_with, found_with, taken_sets}
 use Rattle.p2p_tracker.specs.PeerSets.{set_of}
@@ -80,14 +81,14 @@ is_none Active is = absurd cc
 
 module _ {C S : Type 0} (s : Settings C S) where
   -- how p stands by its last link: inert without one, or once it ended; active since it greeted; else reserved
-  abbrev pub status_since : C → Option ((ℕ × Duration) × List (Happening C S)) → Status
+  abbrev pub status_since : C → Option ((ℕ × Bool × Duration) × List (Happening C S)) → Status
   status_since p None = Inert
   status_since p (Some found) = status_of (list_any (ends_by s p) found.1) (list_any (greets_by s p) found.1)
 
   abbrev pub status_by : C → List (Happening C S) → Status
   status_by p h = status_since p (last_with (opened_by s p) h)
 
-  since_later : (p : C) (e : Happening C S) (found : Option ((ℕ × Duration) × List (Happening C S))) →
+  since_later : (p : C) (e : Happening C S) (found : Option ((ℕ × Bool × Duration) × List (Happening C S))) →
       status_since p (found_with None e found) ≡ status_with (ends_by s p e) (greets_by s p e) (status_since p found)
   since_later p e None = sym (none_yet (ends_by s p e) (greets_by s p e))
   since_later p e (Some found) = one_more (ends_by s p e) (list_any (ends_by s p) found.1)
@@ -103,25 +104,35 @@ module _ {C S : Type 0} (s : Settings C S) where
       status_by p (Happening.Proved n q t draw ∷ h) ≡ (if same s q p then Reserved else status_by p h)
   status_opens p q n t draw h = go (same s q p)
     where
-      go : (b : Bool) → status_since p (found_with (if b then Some (n, t) else None)
+      go : (b : Bool) → status_since p (found_with (if b then Some (n, false, t) else None)
           (Happening.Proved n q t draw) (last_with (opened_by s p) h))
           ≡ (if b then Reserved else status_by p h)
       go true = refl
       go false = since_later p (Happening.Proved n q t draw) (last_with (opened_by s p) h)
+
+  status_dials : (p q : C) (n : ℕ) (t draw : Duration) (word : ℕ) (ingress : Ingress) (h : List (Happening C S)) →
+      status_by p (Happening.Dialed n q t draw word ingress ∷ h) ≡ (if same s q p then Reserved else status_by p h)
+  status_dials p q n t draw word ingress h = go (same s q p)
+    where
+      go : (b : Bool) → status_since p (found_with (if b then Some (n, true, t) else None)
+          (Happening.Dialed n q t draw word ingress) (last_with (opened_by s p) h))
+          ≡ (if b then Reserved else status_by p h)
+      go true = refl
+      go false = since_later p (Happening.Dialed n q t draw word ingress) (last_with (opened_by s p) h)
 
   -- a link on which p hasn't greeted is reserved
   pub greeting_is_reserved : (h : List (Happening C S)) (p : C) (held : Held) → link_at s p h ≡ Some held →
       held.phase ≡ phase.Greeting → status_by p h ≡ Reserved
   greeting_is_reserved h p held of_p is = go (last_with (opened_by s p) h) of_p
     where
-      at : (found : (ℕ × Duration) × List (Happening C S)) (ended : Bool) →
-          (if ended then None else Some (kept_of s p found.0.0 found.0.1 found.1)) ≡ Some held →
+      at : (found : (ℕ × Bool × Duration) × List (Happening C S)) (ended : Bool) →
+          (if ended then None else Some (kept_of s p found.0.0 found.0.1 found.0.2 found.1)) ≡ Some held →
           status_of ended (list_any (greets_by s p) found.1) ≡ Reserved
       at found true of_p = absurd (no_link held of_p)
       at found false of_p = ap (status_of false) (of_greeting (list_any (closes_by s p) found.1)
           (list_any (greets_by s p) found.1) (ap (λ (x : Held). x.phase) (some_is of_p) ∙ is))
 
-      go : (found : Option ((ℕ × Duration) × List (Happening C S))) → link_since s p found ≡ Some held →
+      go : (found : Option ((ℕ × Bool × Duration) × List (Happening C S))) → link_since s p found ≡ Some held →
           status_since p found ≡ Reserved
       go None of_p = absurd (no_link held of_p)
       go (Some found) of_p = at found (list_any (ends_by s p) found.1) of_p
@@ -131,14 +142,14 @@ module _ {C S : Type 0} (s : Settings C S) where
       held.phase ≡ phase.Open → status_by p h ≡ Active
   open_is_active h p held of_p is = go (last_with (opened_by s p) h) of_p
     where
-      at : (found : (ℕ × Duration) × List (Happening C S)) (ended : Bool) →
-          (if ended then None else Some (kept_of s p found.0.0 found.0.1 found.1)) ≡ Some held →
+      at : (found : (ℕ × Bool × Duration) × List (Happening C S)) (ended : Bool) →
+          (if ended then None else Some (kept_of s p found.0.0 found.0.1 found.0.2 found.1)) ≡ Some held →
           status_of ended (list_any (greets_by s p) found.1) ≡ Active
       at found true of_p = absurd (no_link held of_p)
       at found false of_p = ap (status_of false) (of_open (list_any (closes_by s p) found.1)
           (list_any (greets_by s p) found.1) (ap (λ (x : Held). x.phase) (some_is of_p) ∙ is))
 
-      go : (found : Option ((ℕ × Duration) × List (Happening C S))) → link_since s p found ≡ Some held →
+      go : (found : Option ((ℕ × Bool × Duration) × List (Happening C S))) → link_since s p found ≡ Some held →
           status_since p found ≡ Active
       go None of_p = absurd (no_link held of_p)
       go (Some found) of_p = at found (list_any (ends_by s p) found.1) of_p
@@ -154,11 +165,11 @@ module _ {C S : Type 0} (s : Settings C S) where
       at false true held = refl
       at false false held = refl
 
-      go : (found : Option ((ℕ × Duration) × List (Happening C S))) →
+      go : (found : Option ((ℕ × Bool × Duration) × List (Happening C S))) →
           is_active (status_since p found) ≡ (is_some (link_since s p found) && list_any (greets_by s p) (since_of found))
       go None = refl
       go (Some found) = at (list_any (ends_by s p) found.1) (list_any (greets_by s p) found.1)
-          (kept_of s p found.0.0 found.0.1 found.1)
+          (kept_of s p found.0.0 found.0.1 found.0.2 found.1)
 
 -- THE STATUS IN THE WORLD
 
@@ -208,6 +219,21 @@ module _ {C S : Type 0} (b : Base C S) where
     listened cs q t draw p may = called cs (Listen q t draw) p
         ∙ ap (λ x. status_after d p (World.listen_event d q t draw x) (status cs p)) may
 
+    -- .. a dial that is
+    granted : (q p : C) (t draw : ℕ) (may : Bool) (address : Option Ingress) (st : Status) →
+        was_granted (World.dial_event d q t draw may address) ≡ true →
+        status_after d p (World.dial_event d q t draw may address) st ≡ (if same d q p then Reserved else st)
+    granted q p t draw may None st is = absurd cc
+    granted q p t draw true (Some address) st is = refl
+    granted q p t draw false (Some address) st is = absurd cc
+
+    dialled : (cs : List (Call C S)) (q : C) (t draw : ℕ) (p : C) →
+        was_granted (event_of d cs (Dial q t draw)) ≡ true →
+        status (Dial q t draw ∷ cs) p ≡ (if same d q p then Reserved else status cs p)
+    dialled cs q t draw p is = called cs (Dial q t draw) p ∙ granted q p t draw
+        (World.may_dial d q t (world_after d cs).sets ((world_after d cs).peer q) ((world_after d cs).unblock q)
+        ((world_after d cs).cooldown q)) (World.address_with d q ((world_after d cs).peer q).known.info) (status cs p) is
+
     -- a release of who is reserved or connected
     released : (cs : List (Call C S)) (q p : C) →
         status (Release q ∷ cs) p ≡ (if same d q p then Inert else status cs p)
@@ -252,7 +278,7 @@ module _ {C S : Type 0} (b : Base C S) where
     heard : (cs : List (Call C S)) (q : C) (t : Duration) (outcome : Outcome C S) (p : C) →
         status (calls_for q t outcome ++ cs) p ≡ greeted_if (is_greeted outcome && same d q p) (status cs p)
     heard cs q t (Outcome.Waits waiting) p = refl
-    heard cs q t (Outcome.Greets info question) p = connected (Update (info ∷ []) ∷ cs) q false p
+    heard cs q t (Outcome.Greets dialer info question) p = connected (Update (info ∷ []) ∷ cs) q dialer p
         ∙ ap (greeted_if (same d q p)) (updated cs (info ∷ []) p)
     heard cs q t (Outcome.Takes infos) p = updated cs infos p
     heard cs q t (Outcome.Answers reply) p = refl
@@ -287,9 +313,19 @@ module _ {C S : Type 0} (b : Base C S) where
         ∙ sym (status_later d p (Happening.Unproved n q t why) h refl)
     status_is (Happening.Left n t ∷ h) right p = status_is h right.2 p
         ∙ sym (status_later d p (Happening.Left n t) h refl)
-    status_is (Happening.Ended n q t ∷ h) right p = released (calls_of h) q p
+    status_is (Happening.Dialed n q t draw word ingress ∷ h) right p =
+        dialled (calls_of h) q (as_nanos t) (as_nanos draw) p right.0.granted
+        ∙ ap (λ st. if same d q p then Reserved else st) (status_is h right.2 p)
+        ∙ sym (status_dials d p q n t draw word ingress h)
+    status_is (Happening.Undialed t ∷ h) right p = status_is h right.2 p
+        ∙ sym (status_later d p (Happening.Undialed t) h refl)
+    status_is (Happening.Reached n q t ∷ h) right p = status_is h right.2 p
+        ∙ sym (status_later d p (Happening.Reached n q t) h refl)
+    status_is (Happening.Mistaken n q t ∷ h) right p = status_is h right.2 p
+        ∙ sym (status_later d p (Happening.Mistaken n q t) h refl)
+    status_is (Happening.Ended n q t direction ∷ h) right p = released (calls_of h) q p
         ∙ ap (λ st. if same d q p then Inert else st) (status_is h right.2 p)
-        ∙ sym (status_later d p (Happening.Ended n q t) h refl ∙ ended_or (same d q p) (status_by d p h))
+        ∙ sym (status_later d p (Happening.Ended n q t direction) h refl ∙ ended_or (same d q p) (status_by d p h))
     status_is (Happening.SetCame t index primary secondary torn ∷ h) right p =
         tracked (calls_of h) index primary secondary p ∙ status_is h right.2 p
         ∙ sym (status_later d p (Happening.SetCame t index primary secondary torn) h refl)

@@ -24,6 +24,10 @@ module _ {C : Type 0} where
   rise_from m n k [] up rise = grind (arith)
   rise_from m n k (a ∷ xs) up rise = (grind (arith), rise.1)
 
+  rise_to : (m k l : ℕ) (xs : List (Arrival C)) → k ≤ l → Rise m xs k → Rise m xs l
+  rise_to m k l [] up rise = grind (arith)
+  rise_to m k l (a ∷ xs) up rise = (rise.0, rise_to a.number k l xs up rise.1)
+
   -- streams that are left out leave the others in order
   pub rise_filter : (p : Arrival C → Bool) (m k : ℕ) (xs : List (Arrival C)) → Rise m xs k →
       Rise m (filter p xs) k
@@ -221,6 +225,17 @@ module _ {C S : Type 0} where
       ((j : ℕ) → claim_by j e ≡ None) → AreStreams h xs → AreStreams (e ∷ h) xs
   streams_stay e h xs new came leaves claim at = record {
     rise = subst (λ k. Rise 0 xs k) (sym (next_stays e h new)) at.rise;
+    each = λ j. at.each j ∙ sym (stream_later j e h (came j)
+        ∙ ap (λ b. stream_after b (claim_by j e) (stream_at j h)) (leaves j)
+        ∙ ap (λ o. stream_after false o (stream_at j h)) (claim j) ∙ unchanged_stream (stream_at j h));
+  }
+
+  -- a dial that takes the next number
+  pub streams_pass : (e : Happening C S) (h : List (Happening C S)) (xs : List (Arrival C)) →
+      is_new e ≡ true → ((j : ℕ) → came_by j e ≡ None) → ((j : ℕ) → leaves_by j e ≡ false) →
+      ((j : ℕ) → claim_by j e ≡ None) → AreStreams h xs → AreStreams (e ∷ h) xs
+  streams_pass e h xs new came leaves claim at = record {
+    rise = subst (λ k. Rise 0 xs k) (sym (next_rises e h new)) (rise_to 0 (next_at h) (next_at h + 1) xs (omega arith) at.rise);
     each = λ j. at.each j ∙ sym (stream_later j e h (came j)
         ∙ ap (λ b. stream_after b (claim_by j e) (stream_at j h)) (leaves j)
         ∙ ap (λ o. stream_after false o (stream_at j h)) (claim j) ∙ unchanged_stream (stream_at j h));

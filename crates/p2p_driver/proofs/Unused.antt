@@ -5,16 +5,17 @@ use Rattle.std.proofs.Common.{arith}
 use Rattle.std.proofs.lemmas.Bool.Decides.{nat_tests}
 use Rattle.std.specs.Prelude.{if◌then◌else◌, is_some}
 use Rattle.std.specs.declared.time.Duration.{Duration}
+use Rattle.p2p_discovery.specs.declared.types.ingress.Ingress.{Ingress}
 use Rattle.p2p_tracker.specs.History.{same}
 use Rattle.p2p_driver.specs.Arrivals.{has_number}
 use Rattle.p2p_driver.specs.Happenings.{Happening, next_at, stream_at, came_by, leaves_by, claim_by, is_new, opened_by, ends_by}
-use Rattle.p2p_driver.specs.Links.{link_of, link_with}
+use Rattle.p2p_driver.specs.Links.{link_of, link_with, dial_with}
 use Rattle.std.specs.declared.cmp.Ordering.{Ordering}
 use Rattle.p2p_driver.specs.Drivers.{DriverView, Base, DriverStandsAt, IsRight, AreRight, s, link, is_claim_by}
 use Rattle.p2p_driver.specs.declared.arrivals.Arrival.{Arrival}
 use Rattle.p2p_driver.specs.declared.links.Held.{Held}
 use Rattle.p2p_driver.proofs.StreamHistory.{stream_after, stream_later, next_stays, next_rises}
-use Rattle.p2p_driver.proofs.LinkHistory.{Touch, touch_by, link_after, link_later, link_opens}
+use Rattle.p2p_driver.proofs.LinkHistory.{Touch, touch_by, link_after, link_later, link_opens, link_dials}
 
 -- the number of a link, if there is one
 abbrev number_of : Option Held → ℕ
@@ -50,7 +51,11 @@ module _ {C S : Type 0} where
   came_never n (Happening.Proved m p t draw) new = refl
   came_never n (Happening.Unproved m p t why) new = refl
   came_never n (Happening.Left m t) new = refl
-  came_never n (Happening.Ended m p t) new = refl
+  came_never n (Happening.Dialed m p t draw word ingress) new = refl
+  came_never n (Happening.Undialed t) new = refl
+  came_never n (Happening.Reached m p t) new = refl
+  came_never n (Happening.Mistaken m p t) new = refl
+  came_never n (Happening.Ended m p t direction) new = refl
   came_never n (Happening.SetCame t index primary secondary torn) new = refl
   came_never n (Happening.StaleSetCame index primary secondary) new = refl
   came_never n (Happening.StreamLate m t) new = refl
@@ -79,7 +84,11 @@ module _ {C S : Type 0} (b : Base C S) where
   new_is_next n (Happening.Proved m p t draw) h right new other = absurd cc
   new_is_next n (Happening.Unproved m p t why) h right new other = absurd cc
   new_is_next n (Happening.Left m t) h right new other = absurd cc
-  new_is_next n (Happening.Ended m p t) h right new other = absurd cc
+  new_is_next n (Happening.Dialed m p t draw word ingress) h right new other = refl
+  new_is_next n (Happening.Undialed t) h right new other = absurd cc
+  new_is_next n (Happening.Reached m p t) h right new other = absurd cc
+  new_is_next n (Happening.Mistaken m p t) h right new other = absurd cc
+  new_is_next n (Happening.Ended m p t direction) h right new other = absurd cc
   new_is_next n (Happening.SetCame t index primary secondary torn) h right new other = absurd cc
   new_is_next n (Happening.StaleSetCame index primary secondary) h right new other = absurd cc
   new_is_next n (Happening.StreamLate m t) h right new other = absurd cc
@@ -148,7 +157,7 @@ module _ {C S : Type 0} (b : Base C S) where
       other : (k : ℕ) → n < k → (n == k) ≡ false
       other k less = grind (arith, nat_tests)
 
-  -- the number of a link is used: where nothing but a proof begins one
+  -- the number of a link is used: where neither a proof nor a dial begins one
   used_by_link : (q : C) (held : Held) (e : Happening C S) (h : List (Happening C S)) → IsRight b h e →
       opened_by (s b) q e ≡ None →
       ((old : Held) → link b q h ≡ Some old → IsUsed old.number h) →
@@ -189,6 +198,33 @@ module _ {C S : Type 0} (b : Base C S) where
       go true found = subst (λ k. IsUsed k (e ∷ h)) (ap number_of found) now
       go false found = used_later held.number e h right (before held found)
 
+  -- .. or a dial does, with the next number
+  used_by_dial : (q : C) (held : Held) (n : ℕ) (p : C) (t draw : Duration) (word : ℕ) (ingress : Ingress) (h : List (Happening C S)) →
+      IsRight b h (Happening.Dialed n p t draw word ingress) → AreRight b h →
+      ((old : Held) → link b q h ≡ Some old → IsUsed old.number h) →
+      link b q (Happening.Dialed n p t draw word ingress ∷ h) ≡ Some held →
+      IsUsed held.number (Happening.Dialed n p t draw word ingress ∷ h)
+  used_by_dial q held n p t draw word ingress h right rights before is =
+      go (same (s b) p q) (sym (link_dials (s b) q p n t draw word ingress h) ∙ is)
+    where
+      e : Happening C S
+      e = Happening.Dialed n p t draw word ingress
+
+      none : (o : Option (Arrival C)) → (is_some o ≡ true → n < next_at h) → n ≡ next_at h → stream_after false None o ≡ None
+      none None below is = refl
+      none (Some a) below is = let less = below refl in absurd (omega (arith, less, is))
+
+      now : IsUsed n (e ∷ h)
+      now = (
+        stream_later n e h refl ∙ none (stream_at n h) (below n h rights) right.number,
+        (let more = next_rises e h refl in let next = right.number in omega (arith, more, next)),
+      )
+
+      go : (new : Bool) → (if new then Some (dial_with n t) else link b q h) ≡ Some held →
+          IsUsed held.number (e ∷ h)
+      go true found = subst (λ k. IsUsed k (e ∷ h)) (ap number_of found) now
+      go false found = used_later held.number e h right (before held found)
+
   -- the number of a link is used
   pub used : (h : List (Happening C S)) → AreRight b h → (q : C) (held : Held) → link b q h ≡ Some held →
       IsUsed held.number h
@@ -205,8 +241,16 @@ module _ {C S : Type 0} (b : Base C S) where
       used_by_link q held (Happening.Unproved n p t why) h right.0 refl (used h right.2 q) is
   used (Happening.Left n t ∷ h) right q held is =
       used_by_link q held (Happening.Left n t) h right.0 refl (used h right.2 q) is
-  used (Happening.Ended n p t ∷ h) right q held is =
-      used_by_link q held (Happening.Ended n p t) h right.0 refl (used h right.2 q) is
+  used (Happening.Dialed n p t draw word ingress ∷ h) right q held is =
+      used_by_dial q held n p t draw word ingress h right.0 right.2 (used h right.2 q) is
+  used (Happening.Undialed t ∷ h) right q held is =
+      used_by_link q held (Happening.Undialed t) h right.0 refl (used h right.2 q) is
+  used (Happening.Reached n p t ∷ h) right q held is =
+      used_by_link q held (Happening.Reached n p t) h right.0 refl (used h right.2 q) is
+  used (Happening.Mistaken n p t ∷ h) right q held is =
+      used_by_link q held (Happening.Mistaken n p t) h right.0 refl (used h right.2 q) is
+  used (Happening.Ended n p t direction ∷ h) right q held is =
+      used_by_link q held (Happening.Ended n p t direction) h right.0 refl (used h right.2 q) is
   used (Happening.SetCame t index primary secondary torn ∷ h) right q held is =
       used_by_link q held (Happening.SetCame t index primary secondary torn) h right.0 refl
       (used h right.2 q) is
@@ -247,6 +291,12 @@ module _ {C S : Type 0} (b : Base C S) where
       none (Some a) some is = absurd cc
 
   -- .. as it is seen of a driver
+  pub unused_next : (h : List (Happening C S)) (v : DriverView C S) → DriverStandsAt b h v → (q : C) (held : Held) →
+      link_of b.made.directory.cmp v.links q ≡ Some held → held.number ≡ v.next → ⊥
+  unused_next h v at q held is number = let below = used h at.right q held (sym (at.links q) ∙ is) in
+      omega (arith, below.1, number, at.next)
+
+  -- .. that of a stream that isn't proved is no link's
   pub unused_by : (h : List (Happening C S)) (v : DriverView C S) → DriverStandsAt b h v → (n : ℕ) →
       is_some (find (has_number n) v.arrivals) ≡ true → (q : C) (held : Held) →
       link_of (s b).cmp v.links q ≡ Some held → held.number ≡ n → ⊥

@@ -14,11 +14,11 @@ use Rattle.p2p_driver.specs.declared.links.Phase.TheVariants as phase
 use Rattle.p2p_driver.specs.declared.links.Waiting.{Waiting}
 use Rattle.p2p_driver.specs.Frames.{Cause, Outcome, IsWaiting, IsOutcome}
 use Rattle.p2p_driver.specs.Happenings.{Happening, calls_of, opened_by, ends_by, heard_as, said_with}
-use Rattle.p2p_driver.specs.Links.{link_of, link_with, closed, opened, hearing, asking, saying, writing, unless_closing}
+use Rattle.p2p_driver.specs.Links.{link_of, link_with, dial_with, closed, opened, hearing, asking, saying, writing, unless_closing}
 use Rattle.p2p_driver.specs.Questions.{asked_after}
 use Rattle.p2p_driver.specs.declared.questions.Question.{Question}
 use Rattle.p2p_driver.specs.Drivers.{DriverView, Base, DriverStandsAt, AreRight, IsHeard, link, standing}
-use Rattle.p2p_driver.proofs.LinkHistory.{touch_by, closing_if, link_after, link_stays, link_later, link_opens, link_hears, link_asks, link_writes, link_speaks, ended_link, closed_link}
+use Rattle.p2p_driver.proofs.LinkHistory.{touch_by, touched, closing_if, reaching_if, nothing_kept, link_after, link_stays, link_later, link_opens, link_dials, link_hears, link_asks, link_writes, link_speaks, ended_link, closed_link}
 
 none_waits : (w : Waiting) → ¬ (None ≡ Some w)
 none_waits w is = cc
@@ -77,6 +77,13 @@ module _ {C S : Type 0} (b : Base C S) where
       (may held refl w) waits
   speaks p false t o may = may
 
+  -- .. or the stream of a dial was proved: nothing of it waits
+  reaches : (p : C) (x : Bool) (t : Duration) (o : Option Held) → MayWait p o → MayWait p (link_after false (reaching_if x t) o)
+  reaches p true t None may = of_none p
+  reaches p true t (Some held) may = without p (touched (reaching_if true t) held) (nothing_kept {A = Waiting} held.phase)
+  reaches p false t None may = of_none p
+  reaches p false t (Some held) may = may
+
   -- what comes of a frame that waits: it may wait
   pub waits : (cs : List (Call C S)) (p : C) (ph : Phase) (owed : ℕ) (waiting : Option Waiting) (c : Cause) (w : Waiting) →
       IsOutcome d.cmp b.wire (standing b cs) ph owed waiting p c (Outcome.Waits w) →
@@ -119,7 +126,7 @@ module _ {C S : Type 0} (b : Base C S) where
   hears p held t owed (Outcome.Waits v) may before = λ x is.
       subst (λ (y : Held). (w : Waiting) → y.waiting ≡ Some w → IsWaiting d.cmp b.wire (standing b []).limits (standing b []).judge y.phase p w) (some_is is)
       (λ w now. subst (IsWaiting d.cmp b.wire (standing b []).limits (standing b []).judge held.phase p) (in_phase held.phase v w now) (may v refl))
-  hears p held t owed (Outcome.Greets info question) may before = without p (saying (said_with t question) (opened t owed (asked_after t question held.asked) held)) refl
+  hears p held t owed (Outcome.Greets dialer info question) may before = without p (saying (said_with t question) (opened t owed (asked_after t question held.asked) held)) refl
   hears p held t owed (Outcome.Takes infos) may before = without p (hearing t owed None held) (none_in held.phase)
   hears p held t owed (Outcome.Answers reply) may before = without p (saying (Some t) (hearing t owed None held)) (none_in held.phase)
   hears p held t owed (Outcome.Delivers message) may before = without p (hearing t owed None held) (none_in held.phase)
@@ -179,8 +186,20 @@ module _ {C S : Type 0} (b : Base C S) where
         stays e h p (link_stays d p e h refl refl refl) (may_wait h right.2 p)
     may_wait (Happening.Left n t ∷ h) right p = let e : Happening C S = Happening.Left n t in
         stays e h p (link_stays d p e h refl refl refl) (may_wait h right.2 p)
-    may_wait (Happening.Ended n q t ∷ h) right p = subst (MayWait p)
-        (sym (link_later d p (Happening.Ended n q t) h refl ∙ ended_link (same d q p) (link b p h)))
+    may_wait (Happening.Dialed n q t draw word ingress ∷ h) right p =
+        subst (MayWait p) (sym (link_dials d p q n t draw word ingress h)) (go (same d q p) (may_wait h right.2 p))
+      where
+        go : (x : Bool) → MayWait p (link b p h) → MayWait p (if x then Some (dial_with n t) else link b p h)
+        go true may = without p (dial_with n t) refl
+        go false may = may
+    may_wait (Happening.Undialed t ∷ h) right p = let e : Happening C S = Happening.Undialed t in
+        stays e h p (link_stays d p e h refl refl refl) (may_wait h right.2 p)
+    may_wait (Happening.Reached n q t ∷ h) right p = subst (MayWait p) (sym (link_later d p (Happening.Reached n q t) h refl))
+        (reaches p (same d q p) t (link b p h) (may_wait h right.2 p))
+    may_wait (Happening.Mistaken n q t ∷ h) right p =
+        closed_by (Happening.Mistaken n q t) h p (same d q p) refl refl refl (may_wait h right.2 p)
+    may_wait (Happening.Ended n q t direction ∷ h) right p = subst (MayWait p)
+        (sym (link_later d p (Happening.Ended n q t direction) h refl ∙ ended_link (same d q p) (link b p h)))
         (ended p (same d q p) (link b p h) (may_wait h right.2 p))
     may_wait (Happening.SetCame t index primary secondary torn ∷ h) right p =
         closed_by (Happening.SetCame t index primary secondary torn) h p (has_key d.cmp torn p) refl refl refl (may_wait h right.2 p)

@@ -22,8 +22,10 @@ module _ {C : Type 0} (n : ℕ) where
   is_sent_on (action.Send link frame) = link.0 == n
   is_sent_on _ = false
 
-  -- an action of link n: a frame is sent on it, it is closed, or something is told of it
+  -- an action of link n: it is dialled, a frame is sent on it, it is closed, or something is told
+  -- of it
   abbrev pub is_of_link : Action C → Bool
+  is_of_link (action.Dial link p ingress) = link.0 == n
   is_of_link (action.Send link frame) = link.0 == n
   is_of_link (action.Close link why) = link.0 == n
   is_of_link (action.Told e) = is_told_of e

@@ -14,7 +14,7 @@ use Rattle.p2p_driver.specs.Frames.Cause.{OfFrame, OfVerdicts, OfHead}
 use Rattle.p2p_driver.specs.Happenings.{Happening, is_closing, looked_by}
 use Rattle.p2p_driver.specs.Heads.{kind_of}
 use Rattle.p2p_driver.specs.Hearing.{IsMessage, TellsFirst, TellsNext}
-use Rattle.p2p_driver.specs.Links.{link_of, is_open, is_expected, is_unexpected}
+use Rattle.p2p_driver.specs.Links.{link_of, is_dialing, is_open, is_expected, is_unexpected}
 use Rattle.p2p_driver.specs.declared.actions.Why.TheVariants as why
 use Rattle.p2p_driver.specs.declared.admission.Admission.{Admission}
 use Rattle.p2p_driver.specs.declared.admission.Admission.TheVariants as admission
@@ -32,7 +32,7 @@ use Rattle.p2p_driver.specs.declared.links.Waiting.{Waiting}
 
 -- what is returned for an outcome, once a frame is done with
 abbrev pub IsReturned : {C S : Type 0} → List ℕ → Outcome C S → Heard → Type 0
-IsReturned frame (Outcome.Greets info question) r = r ≡ heard.Greeted
+IsReturned frame (Outcome.Greets dialer info question) r = r ≡ heard.Greeted
 IsReturned frame (Outcome.Takes infos) r = r ≡ heard.Applied (length infos)
 IsReturned frame (Outcome.Answers reply) r = r ≡ heard.Answered
 IsReturned frame (Outcome.Delivers message) r = (start : ℕ)
@@ -62,16 +62,17 @@ module _ {C S : Type 0} (cmp : C → C → Ordering) where
   HasLink n v P = (p : C) × (held : Held) × (link_of cmp v.links p ≡ Some held)
       × (held.number ≡ n) × P held
 
-  -- no link has it
+  -- no link has it but a dial whose stream isn't proved
   abbrev pub HasNoLink : ℕ → DriverView C S → Type 0
   HasNoLink n v = (p : C) (held : Held) → link_of cmp v.links p ≡ Some held →
-      held.number ≡ n → ⊥
+      held.number ≡ n → is_dialing held ≡ true
 
   -- a frame of this kind is to come on link n of p, by its first bytes and its length
   abbrev pub LooksOn : ℕ → ℕ → C → ℕ → List ℕ → ℕ → Kind → DriverView C S → Type 0
   LooksOn longest n p owed head size k v = IsSomeAnd (link_of cmp v.links p) (λ held.
       (held.number ≡ n) × (held.owed ≡ owed) × (held.waiting ≡ None)
-      × (¬ (held.phase ≡ phase.Closing)) × (k ≡ kind_of longest v.pace.channels.items
+      × (is_dialing held ≡ false) × (¬ (held.phase ≡ phase.Closing))
+      × (k ≡ kind_of longest v.pace.channels.items
       v.node.limits (is_open held.phase) head size))
 
 module _ {C S : Type 0} (cmp : C → C → Ordering) (wire : Wire C S) where

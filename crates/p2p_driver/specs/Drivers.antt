@@ -2,7 +2,9 @@
 use Rattle.std.specs.Prelude.{ℕ, ◌≡◌, ◌+◌, ◌-◌, ◌≤◌, ◌<◌, ◌*◌, ◌/◌, ◌%◌, ◌^◌, ◌&&◌, ◌⊎◌, max}
 use Rattle.std.specs.Prelude.{not, nat_lt, Bool, true, false, Result, Ok, Err}
 use Rattle.std.specs.Prelude.{List, [], ◌∷◌, ◌++◌, length, find, Option, Some, None, is_some}
+use Rattle.std.specs.Prelude.{option_map}
 use Rattle.std.specs.Prelude.{IfSome, slice_get}
+use Rattle.std.specs.BTreeMap.{is_at}
 use Rattle.std.specs.List.{count_by}
 use Rattle.std.specs.Option.{IsSomeAnd}
 use Rattle.std.specs.Duration.{as_nanos}
@@ -14,8 +16,11 @@ use Rattle.p2p_discovery.specs.declared.data.EncodedData.{EncodedData}
 use Rattle.p2p_discovery.specs.declared.discovery.Payload.TheVariants as payload
 use Rattle.p2p_discovery.specs.Payload.{payload_spelling, payload_at}
 use Rattle.p2p_tracker.specs.Calls.{Settings, Call}
-use Rattle.p2p_tracker.specs.Calls.Call.{Track}
-use Rattle.p2p_tracker.specs.Answers.{IsTrackAnswer, may_listen_at, was_taken}
+use Rattle.p2p_discovery.specs.declared.types.ingress.Ingress.{Ingress}
+use Rattle.p2p_tracker.specs.Calls.Call.{Track, Dial}
+use Rattle.p2p_tracker.specs.Lists.{Somebody}
+use Rattle.p2p_tracker.specs.Answers.{IsTrackAnswer, may_listen_at, was_taken, was_granted}
+use Rattle.p2p_tracker.specs.Answers.{is_dialable, held_ingress}
 use Rattle.p2p_directory.specs.Run.{event_of, world_after}
 use Rattle.p2p_directory.specs.Nodes.{NodeView, Made, NodeStandsAt, made_of, standing_in}
 use Rattle.p2p_directory.specs.Received.{Wire, Standing}
@@ -24,33 +29,42 @@ use Rattle.p2p_driver.specs.Actions.{ActionsView, is_sent_on, is_of_link}
 use Rattle.p2p_driver.specs.Answers.{AnswersView, AreKept, MayAnswer, IsClaimRefusal, roomless}
 use Rattle.p2p_driver.specs.Answers.{IsAllowedAt}
 use Rattle.p2p_driver.specs.Arrivals.{has_number, is_unclaimed, deadline_of, room_of}
-use Rattle.p2p_driver.specs.Frames.{Cause, Outcome, IsOutcome, owed_after}
-use Rattle.p2p_driver.specs.Links.{link_of, needs, is_late, is_to_ask, is_open, has_room}
+use Rattle.p2p_driver.specs.Frames.{Cause, Outcome, IsOutcome, IsAsDialer, owed_after}
+use Rattle.p2p_driver.specs.Links.{link_of, count_of, needs, is_late, is_to_ask, is_open, has_room}
+use Rattle.p2p_driver.specs.Links.{is_dialing, is_dialer, is_timed}
 use Rattle.p2p_driver.specs.Meters.{MetersView}
 use Rattle.p2p_driver.specs.Questions.{owed_with, IsQuestion}
 use Rattle.p2p_driver.specs.Reading.{AreMetered, IsPaced, rate_at, said_at, frames_read}
-use Rattle.p2p_driver.specs.Steps.{is_claim_of, no_proof_of, IsBlock, IsDone}
+use Rattle.p2p_driver.specs.Steps.{is_claim_of, no_proof_of, IsBlock, IsDone, IsQuietIn, IsChosenIn}
 use Rattle.p2p_driver.specs.Happenings.{Happening, latest_at, calls_of, next_at, stream_at}
-use Rattle.p2p_driver.specs.Happenings.{answered_in, link_count, is_proved, is_ended, link_at}
+use Rattle.p2p_driver.specs.Happenings.{answered_in, is_proved, is_dialed, is_reached, is_ended}
+use Rattle.p2p_driver.specs.Happenings.{inbound_count, dial_count, outbound_count, link_count}
+use Rattle.p2p_driver.specs.Happenings.{link_at, retry_at}
 use Rattle.p2p_driver.specs.Happenings.{said, said_as, taken, time_by}
 use Rattle.p2p_driver.specs.declared.actions.Action.{Action}
 use Rattle.p2p_driver.specs.declared.actions.Why.{Why}
 use Rattle.p2p_driver.specs.declared.arrivals.Arrival.{Arrival}
 use Rattle.p2p_driver.specs.declared.arrivals.Room.{Room}
 use Rattle.p2p_driver.specs.declared.arrivals.Room.TheVariants as room
+use Rattle.p2p_driver.specs.declared.links.Direction.{Direction}
+use Rattle.p2p_driver.specs.declared.links.Direction.TheVariants.{Inbound, Dialing, Outbound}
 use Rattle.p2p_driver.specs.declared.links.Held.{Held}
 use Rattle.p2p_driver.specs.declared.origin.Origin.{Origin}
 use Rattle.p2p_driver.specs.declared.pace.Pace.{Pace}
 use Rattle.p2p_driver.specs.declared.questions.Question.{Question}
+use Rattle.p2p_driver.specs.declared.next_dial.NextDial.{NextDial}
 
--- WHAT IS SEEN of a driver: its node, settings, own greeting and cooldown, the latest time, the
--- number of the next stream, the streams that aren't proved, the claims that were answered, the
--- frames that were read of links, the links of peers, and the actions that the host hasn't taken
+-- WHAT IS SEEN of a driver: its node, settings, own greeting and cooldown, from when on it looks
+-- for somebody to dial, and from when on again since memory was refused for a dial, the latest
+-- time, the number of the next stream, the streams that aren't proved, the claims that were
+-- answered, the frames that were read of links, the links of peers, and the actions that the host
+-- hasn't taken
 pub record DriverView (C S : Type 0) : Type 0 where
   pub node : NodeView C S
   pub pace : Pace
   pub greeting : List ℕ
   pub cooldown : ℕ
+  pub next_dial : NextDial
   pub latest : ℕ
   pub next : ℕ
   pub arrivals : List (Arrival C)
@@ -60,13 +74,15 @@ pub record DriverView (C S : Type 0) : Type 0 where
   pub actions : List (Action C)
 
 -- .. of its parts: of the node all but slots, of the claims all but the room for more
-abbrev pub seen : {C S : Type 0} → NodeView C S → Pace → List ℕ → ℕ → ℕ → ℕ → List (Arrival C) →
-    AnswersView → List (ℕ × MetersView) → List (C × Held) → List (Action C) → DriverView C S
-seen node pace greeting cooldown latest next arrivals answers reads links actions = record {
+abbrev pub seen : {C S : Type 0} → NodeView C S → Pace → List ℕ → ℕ → NextDial → ℕ → ℕ →
+    List (Arrival C) → AnswersView → List (ℕ × MetersView) → List (C × Held) → List (Action C) →
+    DriverView C S
+seen node pace greeting cooldown dial latest next arrivals answers reads links actions = record {
   node = record node { slots = [] };
   pace = pace;
   greeting = greeting;
   cooldown = cooldown;
+  next_dial = dial;
   latest = latest;
   next = next;
   arrivals = arrivals;
@@ -125,6 +141,18 @@ abbrev pub is_claim_by : {C : Type 0} → (C → C → Ordering) → C → Optio
 is_claim_by cmp p None = false
 is_claim_by cmp p (Some a) = is_claim_of cmp p a.claim
 
+-- there are as many links of each kind as began, less those that ended, or became of another kind
+pub record AreCounted {C S : Type 0} (h : List (Happening C S)) (links : List (C × Held)) :
+    Type 0 where
+  pub inbound : count_of Inbound links + count_by (is_ended Inbound) h ≡ count_by is_proved h
+  pub dialing : count_of Dialing links
+      + (count_by is_reached h + count_by (is_ended Dialing) h) ≡ count_by is_dialed h
+  pub outbound : count_of Outbound links + count_by (is_ended Outbound) h ≡ count_by is_reached h
+
+-- the jitter of a grant by a random word: at most twice the half of the cooldown
+abbrev pub jitter_of : ℕ → ℕ → ℕ
+jitter_of cooldown word = word % (cooldown / 2 * 2 + 1)
+
 -- WHAT MAY BE DONE
 module _ {C S : Type 0} (b : Base C S) where
   abbrev pub s : Settings C S
@@ -136,7 +164,12 @@ module _ {C S : Type 0} (b : Base C S) where
 
   -- another link has a place
   abbrev pub has_place : List (Happening C S) → Bool
-  has_place h = nat_lt (link_count h) b.pace.links && nat_lt (link_count h) b.pace.inbound
+  has_place h = nat_lt (link_count h) b.pace.links && nat_lt (inbound_count h) b.pace.inbound
+
+  -- .. another dial has
+  abbrev pub has_dial_place : List (Happening C S) → Bool
+  has_dial_place h = nat_lt (link_count h) b.pace.links
+      && (nat_lt (outbound_count h) b.pace.outbound && nat_lt (dial_count h) b.pace.dials)
 
   -- p may come in at t: there is a place, it has no link, and a listen would be granted
   abbrev pub may_come : List (Happening C S) → C → ℕ → Bool
@@ -155,9 +188,32 @@ module _ {C S : Type 0} (b : Base C S) where
   abbrev pub is_claimed : List (Happening C S) → ℕ → C → Bool
   is_claimed h n p = is_claim_by s.cmp p (stream_at n h)
 
-  -- link n is p's
-  abbrev pub IsLinkOf : List (Happening C S) → ℕ → C → Type 0
-  IsLinkOf h n p = IsSomeAnd (link p h) (λ held. held.number ≡ n)
+  -- link n is p's, and came about so
+  abbrev pub IsLinkOf : List (Happening C S) → ℕ → C → Direction → Type 0
+  IsLinkOf h n p direction = IsSomeAnd (link p h)
+      (λ held. (held.number ≡ n) × (held.direction ≡ direction))
+
+  -- dial n is p's, isn't closed, and its stream isn't proved
+  abbrev pub IsDialOf : List (Happening C S) → ℕ → C → Type 0
+  IsDialOf h n p = IsSomeAnd (link p h)
+      (λ held. (held.number ≡ n) × (is_dialing held ≡ true) × (is_timed held.phase ≡ true))
+
+  -- somebody may be dialled at t
+  abbrev pub MayDial : List (Happening C S) → ℕ → Type 0
+  MayDial h t = (has_dial_place h ≡ true) × (retry_at (as_nanos b.pace.tick) h ≤ t)
+      × Somebody (is_dialable s (world_after s (calls_of h)) t)
+
+  -- p is dialled at t as the next link, at its address: of the peers that may be, in the order of
+  -- their keys, it is the one at the position that a random word gives, which gives the jitter, too
+  pub record IsDialed (h : List (Happening C S)) (n : ℕ) (p : C) (t : ℕ) (draw word : ℕ)
+      (ingress : Ingress) : Type 0 where
+    pub number : n ≡ next_at h
+    pub place : has_dial_place h ≡ true
+    pub tried : retry_at (as_nanos b.pace.tick) h ≤ t
+    pub chosen : IsChosenIn s (world_after s (calls_of h)) t word p
+    pub draws : draw ≡ jitter_of s.cooldown word
+    pub address : held_ingress s (world_after s (calls_of h)) p ≡ Some ingress
+    pub granted : was_granted (event_of s (calls_of h) (Dial p t draw)) ≡ true
 
   -- why a claim is refused: the peer may not come in, or too many were answered
   abbrev pub IsRefusal : List (Happening C S) → ℕ → C → ℕ → Why → Type 0
@@ -177,6 +233,7 @@ module _ {C S : Type 0} (b : Base C S) where
   pub record IsHeard (h : List (Happening C S)) (n : ℕ) (p : C) (t : Duration) (owed : ℕ)
       (cause : Cause) (outcome : Outcome C S) (held : Held) : Type 0 where
     pub number : held.number ≡ n
+    pub dials : IsAsDialer (is_dialer held) outcome
     pub comes : IsOutcome s.cmp b.wire (standing (calls_of h)) held.phase held.owed held.waiting p
         cause outcome
     pub owes : owed ≡ owed_after held.phase outcome b.pace.owed held.owed
@@ -227,7 +284,12 @@ module _ {C S : Type 0} (b : Base C S) where
   IsRight h (Happening.Unproved n p t why) = (is_some (stream_at n h) ≡ true)
       × (no_proof h n p (as_nanos t) ≡ Some why)
   IsRight h (Happening.Left n t) = is_some (stream_at n h) ≡ true
-  IsRight h (Happening.Ended n p t) = IsLinkOf h n p
+  IsRight h (Happening.Dialed n p t draw word ingress) =
+      IsDialed h n p (as_nanos t) (as_nanos draw) word ingress
+  IsRight h (Happening.Undialed t) = MayDial h (as_nanos t)
+  IsRight h (Happening.Reached n p t) = IsDialOf h n p
+  IsRight h (Happening.Mistaken n p t) = IsDialOf h n p
+  IsRight h (Happening.Ended n p t direction) = IsLinkOf h n p direction
   IsRight h (Happening.SetCame t index primary secondary torn) =
       let c = Track index primary secondary in
       (length primary ≤ b.made.limits.max_bit_vec)
@@ -241,7 +303,7 @@ module _ {C S : Type 0} (b : Base C S) where
   IsRight h (Happening.StreamLate n t) = IsSomeAnd (stream_at n h)
       (λ a. deadline_of (as_nanos b.pace.first) (as_nanos b.pace.handshake) a ≤ as_nanos t)
   IsRight h (Happening.LinkLate n p t) = IsSomeAnd (link p h) (λ held. (held.number ≡ n)
-      × (is_late (as_nanos b.pace.greeting) (as_nanos b.pace.silence) (as_nanos t) held ≡ true))
+      × (is_late b.pace (as_nanos t) held ≡ true))
   IsRight h (Happening.Heard n p t owed cause outcome) =
       IsSomeAnd (link p h) (IsHeard h n p t owed cause outcome)
   IsRight h (Happening.Asked n p t owed fits question) =
@@ -278,7 +340,10 @@ module _ {C S : Type 0} (b : Base C S) where
     pub answers : AreKept b.pace (latest_at h) (answered_in h) v.answers
     pub reads : AreMetered b.pace (latest_at h) h v.reads
     pub links : (p : C) → link_of s.cmp v.links p ≡ link p h
-    pub count : length v.links + count_by is_ended h ≡ count_by is_proved h
+    pub counts : AreCounted h v.links
+    pub quiet : IsQuietIn s (world_after s (calls_of h)) (latest_at h)
+        (option_map as_nanos v.next_dial.from)
+    pub retry : v.next_dial.retry ≡ retry_at (as_nanos b.pace.tick) h
     pub actions : taken h ++ v.actions ≡ said s b.greeting h
     pub right : AreRight h
 
@@ -326,10 +391,6 @@ module _ {C S : Type 0} (cmp : C → C → Ordering) (wire : Wire C S) where
   TracksAt index primary secondary now v v2 = (torn : List C)
       × DoesAt now (λ t. Happening.SetCame t index primary secondary torn) v v2
 
--- the jitter of a grant by a random word: at most twice the half of the cooldown
-abbrev pub jitter_of : ℕ → ℕ → ℕ
-jitter_of cooldown word = word % (cooldown / 2 * 2 + 1)
-
 -- there is such a stream, and it hasn't said whose it is
 abbrev pub may_claim : {C : Type 0} → Option (Arrival C) → Bool
 may_claim None = false
@@ -359,8 +420,24 @@ module _ {C S : Type 0} (cmp : C → C → Ordering) (wire : Wire C S) where
   AnswersClaim n p now answer v v2 =
       ClaimedBy (may_claim (find (has_number n) v.arrivals)) answer n p now v v2
 
+  -- no dial under way has the number, but one of another peer than p, if p is given
+  abbrev pub NoDial : ℕ → (C → Bool) → DriverView C S → Type 0
+  NoDial n is v = (q : C) (held : Held) → link_of cmp v.links q ≡ Some held → held.number ≡ n →
+      is_dialing held ≡ true → is_timed held.phase ≡ true → is q ≡ false
+
+  -- by what is answered: the dial that was for p is proved, or the dial for another is closed, or
+  -- there is no such dial; memory is wanted only for the first
+  abbrev pub DialProvedBy : Result Bool AllocError → ℕ → C → ℕ → DriverView C S → DriverView C S →
+      Type 0
+  DialProvedBy (Ok true) n p now v v2 = DoesAt cmp wire now (λ t. Happening.Reached n p t) v v2
+  DialProvedBy (Ok false) n p now v v2 = ((v2 ≡ v) × NoDial n (λ q. true) v)
+      ⊎ ((q : C) × (is_at (cmp q) p ≡ false)
+      × DoesAt cmp wire now (λ t. Happening.Mistaken n q t) v v2)
+  DialProvedBy (Err e) n p now v v2 = (v2 ≡ v) × IsSomeAnd (link_of cmp v.links p)
+      (λ held. (held.number ≡ n) × (is_dialing held ≡ true) × (is_timed held.phase ≡ true))
+
   -- by whether there is such a stream, and what is answered: it is a link, with the word's jitter,
-  -- or it's closed, or nothing changes; memory is wanted only for a link
+  -- or it's closed; memory is wanted only for a link
   abbrev pub ProvedBy : Bool → Result Bool AllocError → ℕ → C → ℕ → ℕ → DriverView C S →
       DriverView C S → Type 0
   ProvedBy true (Ok true) n p word now v v2 = (draw : Duration)
@@ -370,8 +447,7 @@ module _ {C S : Type 0} (cmp : C → C → Ordering) (wire : Wire C S) where
       × DoesAt cmp wire now (λ t. Happening.Unproved n p t why) v v2
   ProvedBy true (Err e) n p word now v v2 = (v2 ≡ v) × AtEachHistory cmp wire v
       (λ b h. no_proof b h n p (max v.latest now) ≡ None)
-  ProvedBy false (Ok false) n p word now v v2 = v2 ≡ v
-  ProvedBy false _ n p word now v v2 = ⊥
+  ProvedBy false answer n p word now v v2 = DialProvedBy answer n p now v v2
 
   -- `proved`
   abbrev pub AnswersProof : ℕ → C → ℕ → ℕ → Result Bool AllocError → DriverView C S →
@@ -383,9 +459,9 @@ module _ {C S : Type 0} (cmp : C → C → Ordering) (wire : Wire C S) where
   abbrev pub EndedBy : Bool → Bool → ℕ → ℕ → DriverView C S → DriverView C S → Type 0
   EndedBy true true n now v v2 = DoesAt cmp wire now (λ t. Happening.Left n t) v v2
   EndedBy true false n now v v2 = ⊥
-  EndedBy false true n now v v2 = (p : C)
-      × IsSomeAnd (link_of cmp v.links p) (λ held. held.number ≡ n)
-      × DoesAt cmp wire now (λ t. Happening.Ended n p t) v v2
+  EndedBy false true n now v v2 = (p : C) × IsSomeAnd (link_of cmp v.links p)
+      (λ held. (held.number ≡ n)
+      × DoesAt cmp wire now (λ t. Happening.Ended n p t held.direction) v v2)
   EndedBy false false n now v v2 = (v2 ≡ v)
       × ((p : C) (held : Held) → link_of cmp v.links p ≡ Some held → held.number ≡ n → ⊥)
 

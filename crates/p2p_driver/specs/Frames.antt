@@ -42,8 +42,9 @@ pub data Cause : Type 0 where
 pub data Outcome (C S : Type 0) : Type 0 where
   -- the frame waits until it is told which of its signatures are right
   Waits : (waiting : Waiting) → Outcome C S
-  -- the peer has greeted: its info is applied, and it is asked this question, if memory is there
-  Greets : (info : Info C S) (question : Option Question) → Outcome C S
+  -- the peer has greeted, on a dial or not: its info is applied, and it is asked this question, if
+  -- memory is there
+  Greets : (dialer : Bool) (info : Info C S) (question : Option Question) → Outcome C S
   -- infos are applied
   Takes : (infos : List (Info C S)) → Outcome C S
   -- a question is answered with this frame
@@ -83,9 +84,14 @@ is_unasked owed frame = (owed == 0) && (begins_with 3 frame && not (is_empty_lis
 
 -- how many questions are owed after an outcome, of so many before and at most so many
 abbrev pub owed_after : {C S : Type 0} → Phase → Outcome C S → ℕ → ℕ → ℕ
-owed_after ph (Outcome.Greets info question) most owed = owed_with question most owed
+owed_after ph (Outcome.Greets dialer info question) most owed = owed_with question most owed
 owed_after ph (Outcome.Waits waiting) most owed = owed - 1
 owed_after ph outcome most owed = owed
+
+-- the peer greets as one that was dialled or not, as it should
+abbrev pub IsAsDialer : {C S : Type 0} → Bool → Outcome C S → Type 0
+IsAsDialer dials (Outcome.Greets dialer info question) = dialer ≡ dials
+IsAsDialer dials outcome = Unit {0}
 
 -- what may come of the first bytes of a frame
 abbrev pub is_of_head : {C S : Type 0} → Outcome C S → Bool
@@ -199,7 +205,7 @@ module _ {C S : Type 0} (cmp : C → C → Ordering) (wire : Wire C S) (limits :
 
   -- what comes of verdicts on the frame that waits: it is judged by the wall time at which it came
   abbrev pub ComesOfVerdicts : Waiting → List Bool → Outcome C S → Type 0
-  ComesOfVerdicts w verdicts (Outcome.Greets info question) =
+  ComesOfVerdicts w verdicts (Outcome.Greets dialer info question) =
       Spells wire limits w.frame (payload.Greeting info)
       × (refusal_of verdicts (as_nanos w.wall) (payload.Greeting info) ≡ None)
   ComesOfVerdicts w verdicts (Outcome.Takes infos) =

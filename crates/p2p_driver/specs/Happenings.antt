@@ -2,6 +2,7 @@
 -- the links, and what was said. A history is the list of what was done, the newest first.
 use Rattle.std.specs.Prelude.{ℕ, ◌==◌, ◌+◌, ◌-◌, ◌&&◌, not, Bool, true, false, if◌then◌else◌}
 use Rattle.std.specs.Prelude.{List, [], ◌∷◌, ◌++◌, drop, Option, Some, None, option_map, unwrap_or}
+use Rattle.std.specs.Prelude.{max, is_some}
 use Rattle.std.specs.List.{list_any, count_by}
 use Rattle.std.specs.BTreeMap.{is_at}
 use Rattle.std.specs.Duration.{as_nanos}
@@ -9,15 +10,16 @@ use Rattle.std.specs.declared.cmp.Ordering.{Ordering}
 use Rattle.std.specs.declared.time.Duration.{Duration}
 use Rattle.p2p_discovery.specs.Ordered.{has_key}
 use Rattle.p2p_tracker.specs.Calls.{Settings, Call}
-use Rattle.p2p_tracker.specs.Calls.Call.{Track, Listen, Connect, Release, Update, Block}
+use Rattle.p2p_tracker.specs.Calls.Call.{Track, Dial, Listen, Connect, Release, Update, Block}
 use Rattle.p2p_tracker.specs.Calls.Call.{UnblockExpired, ForgetCooled}
 use Rattle.p2p_tracker.specs.History.{same, last_with}
 use Rattle.p2p_driver.specs.Questions.{asked_after, counted}
 use Rattle.p2p_driver.specs.Frames.{Cause, Outcome, waiting_by}
 use Rattle.p2p_driver.specs.Links.{closed, opened, hearing, allowing, saying, with_said}
-use Rattle.p2p_driver.specs.Links.{unless_closing, is_slow}
+use Rattle.p2p_driver.specs.Links.{unless_closing, is_slow, is_way}
 use Rattle.p2p_driver.specs.Looked.{LookedView}
 use Rattle.p2p_discovery.specs.declared.discovery.Info.{Info}
+use Rattle.p2p_discovery.specs.declared.types.ingress.Ingress.{Ingress}
 use Rattle.p2p_driver.specs.declared.actions.Action.{Action}
 use Rattle.p2p_driver.specs.declared.actions.Breach.{Breach}
 use Rattle.p2p_driver.specs.declared.actions.Action.TheVariants as action
@@ -28,6 +30,8 @@ use Rattle.p2p_driver.specs.declared.arrivals.Arrival.{Arrival}
 use Rattle.p2p_driver.specs.declared.arrivals.Room.{Room}
 use Rattle.p2p_driver.specs.declared.arrivals.Room.TheVariants as room
 use Rattle.p2p_driver.specs.declared.links.Asked as questions
+use Rattle.p2p_driver.specs.declared.links.Direction.{Direction}
+use Rattle.p2p_driver.specs.declared.links.Direction.TheVariants as way
 use Rattle.p2p_driver.specs.declared.links.Held.{Held}
 use Rattle.p2p_driver.specs.declared.links.Waiting.{Waiting}
 use Rattle.p2p_driver.specs.declared.links.Phase.{Phase}
@@ -49,8 +53,16 @@ pub data Happening (C S : Type 0) : Type 0 where
   Unproved : (n : ℕ) (p : C) (t : Duration) (why : Why) → Happening C S
   -- stream n ended before it was proved
   Left : (n : ℕ) (t : Duration) → Happening C S
-  -- link n of p ended, and p is released
-  Ended : (n : ℕ) (p : C) (t : Duration) → Happening C S
+  -- at t a dial of p began, at an address, and p is reserved: link n of p, chosen by a random word
+  Dialed : (n : ℕ) (p : C) (t draw : Duration) (word : ℕ) (ingress : Ingress) → Happening C S
+  -- at t memory was refused for a dial
+  Undialed : (t : Duration) → Happening C S
+  -- the stream of dial n was proved at t to be p's, whom it was for
+  Reached : (n : ℕ) (p : C) (t : Duration) → Happening C S
+  -- .. to be another's than p's: it is closed
+  Mistaken : (n : ℕ) (p : C) (t : Duration) → Happening C S
+  -- link n of p ended, which came about so, and p is released
+  Ended : (n : ℕ) (p : C) (t : Duration) (direction : Direction) → Happening C S
   -- a set came at t that was accepted, and tears down these peers
   SetCame : (t : Duration) (index : ℕ) (primary secondary torn : List C) → Happening C S
   -- a set came that was not accepted
@@ -97,7 +109,11 @@ module _ {C S : Type 0} where
   time_by (Happening.Proved n p t draw) = Some t
   time_by (Happening.Unproved n p t why) = Some t
   time_by (Happening.Left n t) = Some t
-  time_by (Happening.Ended n p t) = Some t
+  time_by (Happening.Dialed n p t draw word ingress) = Some t
+  time_by (Happening.Undialed t) = Some t
+  time_by (Happening.Reached n p t) = Some t
+  time_by (Happening.Mistaken n p t) = Some t
+  time_by (Happening.Ended n p t direction) = Some t
   time_by (Happening.SetCame t index primary secondary torn) = Some t
   time_by (Happening.StaleSetCame index primary secondary) = None
   time_by (Happening.StreamLate n t) = Some t
@@ -124,8 +140,8 @@ module _ {C S : Type 0} where
 
   -- .. since the peer p of a link was heard at t
   abbrev pub calls_for : C → Duration → Outcome C S → List (Call C S)
-  calls_for p t (Outcome.Greets info question) =
-      Connect p false ∷ Update (info ∷ []) ∷ []
+  calls_for p t (Outcome.Greets dialer info question) =
+      Connect p dialer ∷ Update (info ∷ []) ∷ []
   calls_for p t (Outcome.Takes infos) = Update infos ∷ []
   calls_for p t (Outcome.Breaks breach (Some taken)) = Block p (as_nanos t) ∷ []
   calls_for p t outcome = []
@@ -133,7 +149,9 @@ module _ {C S : Type 0} where
   -- what was called of the node, the newest call first
   abbrev pub calls_by : Happening C S → List (Call C S)
   calls_by (Happening.Proved n p t draw) = Listen p (as_nanos t) (as_nanos draw) ∷ []
-  calls_by (Happening.Ended n p t) = Release p ∷ []
+  calls_by (Happening.Dialed n p t draw word ingress) =
+      Dial p (as_nanos t) (as_nanos draw) ∷ []
+  calls_by (Happening.Ended n p t direction) = Release p ∷ []
   calls_by (Happening.SetCame t index primary secondary torn) = Track index primary secondary ∷ []
   calls_by (Happening.StaleSetCame index primary secondary) = Track index primary secondary ∷ []
   calls_by (Happening.Heard n p t owed cause outcome) = calls_for p t outcome
@@ -148,12 +166,13 @@ module _ {C S : Type 0} where
 
   -- STREAMS THAT AREN'T PROVED
 
-  -- it is a stream that came
+  -- it is a stream that came, or a dial that began
   abbrev pub is_new : Happening C S → Bool
   is_new (Happening.Arrived n origin t space) = true
+  is_new (Happening.Dialed n p t draw word ingress) = true
   is_new _ = false
 
-  -- the number of the next stream: they rise from 1
+  -- the number of the next stream or dial: they rise from 1
   abbrev pub next_at : List (Happening C S) → ℕ
   next_at h = count_by is_new h + 1
 
@@ -208,17 +227,59 @@ module _ {C S : Type 0} where
 
   -- HOW MANY LINKS THERE ARE
 
+  -- it is a stream that came in and was proved
   abbrev pub is_proved : Happening C S → Bool
   is_proved (Happening.Proved n p t draw) = true
   is_proved _ = false
 
-  abbrev pub is_ended : Happening C S → Bool
-  is_ended (Happening.Ended n p t) = true
-  is_ended _ = false
+  -- .. a dial that began
+  abbrev pub is_dialed : Happening C S → Bool
+  is_dialed (Happening.Dialed n p t draw word ingress) = true
+  is_dialed _ = false
 
-  -- as many as were proved, less those that ended
+  -- .. a dial whose stream was proved
+  abbrev pub is_reached : Happening C S → Bool
+  is_reached (Happening.Reached n p t) = true
+  is_reached _ = false
+
+  -- .. a link that ended, and that came about so
+  abbrev pub is_ended : Direction → Happening C S → Bool
+  is_ended direction (Happening.Ended n p t other) = is_way direction other
+  is_ended direction _ = false
+
+  -- inbound links: as many as were proved, less those that ended
+  abbrev pub inbound_count : List (Happening C S) → ℕ
+  inbound_count h = count_by is_proved h - count_by (is_ended way.Inbound) h
+
+  -- dials under way: as many as began, less those that were proved, or ended before that
+  abbrev pub dial_count : List (Happening C S) → ℕ
+  dial_count h =
+      count_by is_dialed h - (count_by is_reached h + count_by (is_ended way.Dialing) h)
+
+  -- .. that were proved: as many as were, less those that ended
+  abbrev pub dialer_count : List (Happening C S) → ℕ
+  dialer_count h = count_by is_reached h - count_by (is_ended way.Outbound) h
+
+  -- outbound links, dials under way among them
+  abbrev pub outbound_count : List (Happening C S) → ℕ
+  outbound_count h = dial_count h + dialer_count h
+
+  -- .. and all links
   abbrev pub link_count : List (Happening C S) → ℕ
-  link_count h = count_by is_proved h - count_by is_ended h
+  link_count h = inbound_count h + outbound_count h
+
+  -- by it memory was refused for a dial: when
+  abbrev pub undialed_by : Happening C S → Option Duration
+  undialed_by (Happening.Undialed t) = Some t
+  undialed_by _ = None
+
+  -- until when nobody is dialled since memory was refused: so long after it
+  abbrev pub retry_of : ℕ → Option (Duration × List (Happening C S)) → ℕ
+  retry_of tick None = 0
+  retry_of tick (Some found) = as_nanos found.0 + max tick 1
+
+  abbrev pub retry_at : ℕ → List (Happening C S) → ℕ
+  retry_at tick h = retry_of tick (last_with undialed_by h)
 
 -- how far a link is, by whether it was closed, and whether its peer has greeted
 abbrev pub phase_of : Bool → Bool → Phase
@@ -245,7 +306,7 @@ looked_by outcome = None
 
 -- .. its peer has greeted
 abbrev pub is_greeted : {C S : Type 0} → Outcome C S → Bool
-is_greeted (Outcome.Greets info question) = true
+is_greeted (Outcome.Greets dialer info question) = true
 is_greeted outcome = false
 
 -- when a question is said, if it was asked at t
@@ -254,14 +315,14 @@ said_with t question = option_map (λ q. t) question
 
 -- by this outcome a frame is said, if one is: when
 abbrev pub said_as : {C S : Type 0} → Duration → Outcome C S → Option Duration
-said_as t (Outcome.Greets info question) = said_with t question
+said_as t (Outcome.Greets dialer info question) = said_with t question
 said_as t (Outcome.Answers reply) = Some t
 said_as t outcome = None
 
 -- what it makes of what is kept of the link of the peer that was heard at t, if so many questions
 -- are owed then
 abbrev pub heard_as : {C S : Type 0} → Duration → ℕ → Outcome C S → Held → Held
-heard_as t owed (Outcome.Greets info question) held =
+heard_as t owed (Outcome.Greets dialer info question) held =
     saying (said_with t question) (opened t owed (asked_after t question held.asked) held)
 heard_as t owed (Outcome.Answers reply) held = saying (Some t) (hearing t owed None held)
 heard_as t owed (Outcome.Breaks breach blocked) held = closed held
@@ -273,7 +334,7 @@ heard_as t owed outcome held = hearing t owed (waiting_by outcome) held
 -- a question was due since the peer was heard at t: it was asked if memory was there
 abbrev pub tried_with : {C S : Type 0} → Duration → Outcome C S →
     Option (Duration × Option Question)
-tried_with t (Outcome.Greets info question) = Some (t, question)
+tried_with t (Outcome.Greets dialer info question) = Some (t, question)
 tried_with t outcome = None
 
 -- the index of the set that was asked for, if one was
@@ -291,19 +352,27 @@ newest_tried (Some (t, Some question)) = question.newest
 module _ {C S : Type 0} (s : Settings C S) where
   -- LINKS, of which a peer has one at most
 
-  -- by it a link of p began: its number, and when
-  abbrev pub opened_by : C → Happening C S → Option (ℕ × Duration)
-  opened_by p (Happening.Proved n q t draw) = if same s q p then Some (n, t) else None
+  -- by it a link of p began: its number, whether it is a dial, and when
+  abbrev pub opened_by : C → Happening C S → Option (ℕ × Bool × Duration)
+  opened_by p (Happening.Proved n q t draw) = if same s q p then Some (n, false, t) else None
+  opened_by p (Happening.Dialed n q t draw word ingress) =
+      if same s q p then Some (n, true, t) else None
   opened_by p _ = None
+
+  -- by it the stream of the dial of p was proved: when
+  abbrev pub reached_by : C → Happening C S → Option Duration
+  reached_by p (Happening.Reached n q t) = if same s q p then Some t else None
+  reached_by p _ = None
 
   -- by it the link of p ended
   abbrev pub ends_by : C → Happening C S → Bool
-  ends_by p (Happening.Ended n q t) = same s q p
+  ends_by p (Happening.Ended n q t direction) = same s q p
   ends_by p _ = false
 
   -- by it the link of p was closed
   abbrev pub closes_by : C → Happening C S → Bool
   closes_by p (Happening.SetCame t index primary secondary torn) = has_key s.cmp torn p
+  closes_by p (Happening.Mistaken n q t) = same s q p
   closes_by p (Happening.LinkLate n q t) = same s q p
   closes_by p (Happening.Heard n q t owed cause outcome) = is_closing outcome && same s q p
   closes_by p (Happening.Barred q t taken) = same s q p
@@ -319,6 +388,7 @@ module _ {C S : Type 0} (s : Settings C S) where
   abbrev pub heard_by : C → Happening C S → Option (Duration × Option Waiting)
   heard_by p (Happening.Heard n q t owed cause outcome) =
       if is_heard outcome && same s q p then Some (t, waiting_by outcome) else None
+  heard_by p (Happening.Reached n q t) = if same s q p then Some (t, None) else None
   heard_by p _ = None
 
   -- .. how many questions are owed after it
@@ -349,6 +419,7 @@ module _ {C S : Type 0} (s : Settings C S) where
   says_on p (Happening.Asked n q t owed fits question) =
       if same s q p then said_with t question else None
   says_on p (Happening.Spoken n q t place) = if same s q p then Some t else None
+  says_on p (Happening.Reached n q t) = if same s q p then Some t else None
   says_on p _ = None
 
   -- .. the oldest one is written that isn't
@@ -390,34 +461,52 @@ module _ {C S : Type 0} (s : Settings C S) where
     rounds = counted (count_by (newest_by p) since);
   }
 
-  -- when the frames were said on the link of p that aren't written, the oldest first, by when its
-  -- link began, with the own greeting, and what was done since
-  abbrev pub unwritten_in : C → Duration → List (Happening C S) → List Duration
-  unwritten_in p t [] = t ∷ []
-  unwritten_in p t (e ∷ since) = with_said (says_on p e)
-      (if writes_by p e then drop 1 (unwritten_in p t since) else unwritten_in p t since)
+  -- when the own greeting is said on a link as it begins: on that of a stream that came in at once
+  abbrev pub first_said : Bool → Duration → List Duration
+  first_said true t = []
+  first_said false t = t ∷ []
 
-  -- what is kept of the link of p, by its number and when it began, and what was done since
-  abbrev pub kept_of : C → ℕ → Duration → List (Happening C S) → Held
-  kept_of p n t since =
+  -- when the frames were said on the link of p that aren't written, the oldest first, by what was
+  -- said when its link began, and what was done since
+  abbrev pub unwritten_in : C → List Duration → List (Happening C S) → List Duration
+  unwritten_in p first [] = first
+  unwritten_in p first (e ∷ since) = with_said (says_on p e)
+      (if writes_by p e then drop 1 (unwritten_in p first since) else unwritten_in p first since)
+
+  -- how the link of p came about, by whether it is a dial, and whether that was proved
+  abbrev pub way_of : Bool → Bool → Direction
+  way_of false proved = way.Inbound
+  way_of true false = way.Dialing
+  way_of true true = way.Outbound
+
+  -- when its key was proved, or else when it began
+  abbrev pub proved_at : Duration → Option (Duration × List (Happening C S)) → Duration
+  proved_at began None = began
+  proved_at began (Some found) = found.0
+
+  -- what is kept of the link of p, by its number, whether it is a dial, when it began, and what was
+  -- done since
+  abbrev pub kept_of : C → ℕ → Bool → Duration → List (Happening C S) → Held
+  kept_of p n dial t since =
       let phase = phase_of (list_any (closes_by p) since) (list_any (greets_by p) since) in
       let last = last_heard t (last_with (heard_by p) since) in record {
         number = n;
+        direction = way_of dial (is_some (last_with (reached_by p) since));
         phase = phase;
-        since = t;
+        since = proved_at t (last_with (reached_by p) since);
         heard = last.0;
         owed = unwrap_or (option_map (λ found. found.0) (last_with (owed_by p) since)) 0;
         waiting = unless_closing phase last.1;
         asked = asked_in p t since;
         looked = unless_closing phase (last_looked (last_with (looks_by p) since));
-        unwritten = unwritten_in p t since;
+        unwritten = unwritten_in p (first_said dial t) since;
       }
 
-  -- the link of p, by its number and when it began, and what was done since
-  abbrev pub link_since : C → Option ((ℕ × Duration) × List (Happening C S)) → Option Held
+  -- the link of p, by its number, whether it is a dial, when it began, and what was done since
+  abbrev pub link_since : C → Option ((ℕ × Bool × Duration) × List (Happening C S)) → Option Held
   link_since p None = None
   link_since p (Some found) = if list_any (ends_by p) found.1 then None
-      else Some (kept_of p found.0.0 found.0.1 found.1)
+      else Some (kept_of p found.0.0 found.0.1 found.0.2 found.1)
 
   -- the link of p: the one that began last, unless it ended
   abbrev pub link_at : C → List (Happening C S) → Option Held
@@ -435,6 +524,10 @@ module _ {C : Type 0} where
   -- a stream is closed
   abbrev pub closing : ℕ → Why → List (Action C)
   closing n why = action.Close (record { 0 = n }) why ∷ []
+
+  -- a peer is dialled, at an address
+  abbrev pub dialing : ℕ → C → Ingress → List (Action C)
+  dialing n p ingress = action.Dial (record { 0 = n }) p ingress ∷ []
 
   -- a frame is sent on a link
   abbrev pub sent : ℕ → List ℕ → List (Action C)
@@ -472,7 +565,7 @@ module _ {C : Type 0} where
 
   -- what comes of a frame of link n of p is said
   abbrev pub answered_on : {S : Type 0} → ℕ → C → Outcome C S → Option Held → List (Action C)
-  answered_on n p (Outcome.Greets info question) link =
+  answered_on n p (Outcome.Greets dialer info question) link =
       action.Told (event.Up (record { 0 = n }) p) ∷ asking_on n question
   answered_on n p (Outcome.Answers reply) link = sent n reply
   answered_on n p (Outcome.Breaks b blocked) link = shut p (why.Breach b) link ++ barred p b blocked
@@ -502,7 +595,10 @@ module _ {C S : Type 0} (s : Settings C S) (greeting : List ℕ) where
   says_by h (Happening.Refused n p t why) = closing n why
   says_by h (Happening.Proved n p t draw) = sent n greeting
   says_by h (Happening.Unproved n p t why) = closing n why
-  says_by h (Happening.Ended n p t) = parted p (link_at s p h)
+  says_by h (Happening.Dialed n p t draw word ingress) = dialing n p ingress
+  says_by h (Happening.Reached n p t) = sent n greeting
+  says_by h (Happening.Mistaken n p t) = shut p why.WrongKey (link_at s p h)
+  says_by h (Happening.Ended n p t direction) = parted p (link_at s p h)
   says_by h (Happening.SetCame t index primary secondary torn) =
       shut_all s.cmp torn (λ p. link_at s p h)
   says_by h (Happening.StreamLate n t) = closing n why.Slow

@@ -20,12 +20,13 @@ use Rattle.p2p_directory.specs.Run.{world_after}
 use Rattle.p2p_driver.specs.Frames.{Outcome, Shares, Spells, ComesFirst, ComesOf}
 use Rattle.p2p_driver.specs.Frames.{ComesOfVerdicts, refusal_of, is_greeting_frame, is_unasked}
 use Rattle.p2p_driver.specs.Happenings.{answered_on, heard_as}
-use Rattle.p2p_driver.specs.Links.{link_of}
+use Rattle.p2p_driver.specs.Links.{link_of, count_of}
 use Rattle.p2p_driver.specs.Steps.{Makes}
 use Rattle.p2p_driver.specs.declared.actions.Action.{Action}
 use Rattle.p2p_driver.specs.declared.actions.Breach.TheVariants as breach
 use Rattle.p2p_driver.specs.declared.frames.Came.{Came}
 use Rattle.p2p_driver.specs.declared.frames.Came.TheVariants as came
+use Rattle.p2p_driver.specs.declared.links.Direction.{Direction}
 use Rattle.p2p_driver.specs.declared.links.Held.{Held}
 use Rattle.p2p_driver.specs.declared.links.Waiting.{Waiting}
 use Rattle.p2p_driver.specs.declared.questions.Question.{Question}
@@ -112,7 +113,8 @@ module _ {C S : Type 0} (cmp : C → C → Ordering) (wire : Wire C S) where
   -- .. to verdicts on a frame that waits
   abbrev pub Judges : Waiting → List Bool → Judged → NodeView C S → NodeView C S → Type 0
   Judges w verdicts judged.Greeted v v2 = (info : Info C S)
-      × ((question : Option Question) → IsJudged w verdicts (Outcome.Greets info question) v)
+      × ((dialer : Bool) (question : Option Question) →
+      IsJudged w verdicts (Outcome.Greets dialer info question) v)
       × Makes cmp (Update (info ∷ []) ∷ []) v v2
   Judges w verdicts (judged.Applied count) v v2 = (infos : List (Info C S))
       × (count ≡ length infos) × IsJudged w verdicts (Outcome.Takes infos) v
@@ -129,5 +131,5 @@ pub record Follows {C S : Type 0} (cmp : C → C → Ordering) (n : ℕ) (p : C)
     Type 0 where
   pub links_are : (q : C) → link_of cmp links2 q ≡ (if is_at (cmp p) q
       then option_map (heard_as t owed outcome) (link_of cmp links q) else link_of cmp links q)
-  pub count : length links2 ≡ length links
+  pub counts : (way : Direction) → count_of way links2 ≡ count_of way links
   pub said : actions2 ≡ actions ++ answered_on n p outcome (link_of cmp links p)

@@ -14,6 +14,9 @@ use Rattle.p2p_driver.specs.declared.actions.Action.{Action}
 use Rattle.p2p_driver.specs.declared.actions.Action.TheVariants as action
 use Rattle.p2p_driver.specs.declared.actions.Why.{Why}
 use Rattle.p2p_driver.specs.declared.actions.Why.TheVariants as why
+use Rattle.p2p_driver.specs.declared.links.Direction.{Direction}
+use Rattle.p2p_driver.specs.declared.links.Direction.TheVariants as way
+use Rattle.p2p_driver.specs.declared.links.Held.{Held}
 use Rattle.p2p_driver.specs.declared.questions.Question.{Question}
 
 -- a list begins with these, and goes on
@@ -34,7 +37,7 @@ is_served outcome = false
 
 -- an outcome but for what may lack memory, or room: the question, and whether the peer is blocked
 abbrev pub bare : {C S : Type 0} → Outcome C S → Outcome C S
-bare (Outcome.Greets info question) = Outcome.Greets info None
+bare (Outcome.Greets dialer info question) = Outcome.Greets dialer info None
 bare (Outcome.Breaks breach blocked) = Outcome.Breaks breach None
 bare outcome = outcome
 
@@ -50,7 +53,7 @@ is_for_set (Some question) = is_some question.index
 
 -- by this outcome the peer is asked for a set
 abbrev pub is_asked : {C S : Type 0} → Outcome C S → Bool
-is_asked (Outcome.Greets info question) = is_for_set question
+is_asked (Outcome.Greets dialer info question) = is_for_set question
 is_asked outcome = false
 
 -- by this one a list of infos is admitted: it waits until it is told which signatures are right
@@ -70,6 +73,16 @@ Blames p now (Happening.Heard n q t owed cause (Outcome.Breaks breach (Some take
 Blames p now (Happening.Barred q t taken) = (q ≡ p) × (as_nanos t ≡ now)
 Blames p now e = ⊥
 
+-- what was said on a link as it began, by how it came about, and when: the own greeting at once, on
+-- that of a stream that came in
+abbrev pub first_of : Direction → Duration → List Duration
+first_of way.Inbound since = since ∷ []
+first_of way.Dialing since = []
+first_of way.Outbound since = []
+
+abbrev pub first_on : Held → List Duration
+first_on held = first_of held.direction held.since
+
 -- what was done since something was found
 abbrev pub since_of : {A E : Type 0} → Option (A × List E) → List E
 since_of None = []
@@ -82,7 +95,7 @@ module _ {C S : Type 0} (s : Settings C S) where
 
   -- by it p greeted, with an info of its own key
   abbrev pub IsGreetingOf : C → Happening C S → Type 0
-  IsGreetingOf p (Happening.Heard n q t owed cause (Outcome.Greets info question)) =
+  IsGreetingOf p (Happening.Heard n q t owed cause (Outcome.Greets dialer info question)) =
       (same s q p ≡ true) × (same s p info.public_key ≡ true)
   IsGreetingOf p e = ⊥
 
@@ -94,7 +107,8 @@ module _ {C S : Type 0} (s : Settings C S) where
   abbrev pub has_greeted : C → List (Happening C S) → Bool
   has_greeted p h = list_any (greets_by s p) (since_began p h)
 
-  -- why the link of p is closed by what p or the application does, if it is
+  -- why the link of p is closed by what p or the application does, or since the stream of a dial is
+  -- another's, if it is
   abbrev pub cut_by : C → Happening C S → Option Why
   cut_by p (Happening.Heard n q t owed cause (Outcome.Breaks breach blocked)) =
       if same s q p then Some (why.Breach breach) else None
@@ -102,6 +116,7 @@ module _ {C S : Type 0} (s : Settings C S) where
       if same s q p then Some why.Future else None
   cut_by p (Happening.Heard n q t owed cause Outcome.LacksChannel) =
       if same s q p then Some why.NoChannel else None
+  cut_by p (Happening.Mistaken n q t) = if same s q p then Some why.WrongKey else None
   cut_by p (Happening.Barred q t taken) = if same s q p then Some why.Blocked else None
   cut_by p (Happening.Parted q t) = if same s q p then Some why.Application else None
   cut_by p e = None
@@ -129,7 +144,7 @@ module _ {C S : Type 0} (s : Settings C S) where
   said_in p [] = []
   said_in p (e ∷ h) = said_in p h ++ option_to_list (says_on s p e)
 
-  -- .. on its last link, after the own greeting, and how many frames were written there
+  -- .. on its last link, after what was said as it began, and how many frames were written there
   abbrev pub said_since : C → List (Happening C S) → List Duration
   said_since p h = said_in p (since_began p h)
 

@@ -16,10 +16,13 @@ use Rattle.p2p_driver.specs.Looked.{LookedView, is_frame_of}
 use Rattle.p2p_driver.specs.declared.links.Asked.{Asked}
 use Rattle.p2p_driver.specs.declared.links.Change.{Change}
 use Rattle.p2p_driver.specs.declared.links.Change.TheVariants as change
+use Rattle.p2p_driver.specs.declared.links.Direction.{Direction}
+use Rattle.p2p_driver.specs.declared.links.Direction.TheVariants.{Inbound, Dialing, Outbound}
 use Rattle.p2p_driver.specs.declared.links.Held.{Held}
 use Rattle.p2p_driver.specs.declared.links.Phase.{Phase}
 use Rattle.p2p_driver.specs.declared.links.Waiting.{Waiting}
 use Rattle.p2p_driver.specs.declared.links.Phase.TheVariants.{Greeting, Open, Closing}
+use Rattle.p2p_driver.specs.declared.pace.Pace.{Pace}
 
 -- what is kept of the link of a peer, if it has one
 abbrev pub link_of : {C : Type 0} → (C → C → Ordering) → List (C × Held) → C → Option Held
@@ -39,11 +42,33 @@ need_at link = unwrap_or (option_map (λ h. need_of h.phase) link) 0
 abbrev pub needs : {C : Type 0} → List (C × Held) → ℕ
 needs links = sum_by (λ h. need_of h.phase) (values_of links)
 
--- a link of a peer that hasn't greeted: nothing was heard of it, or asked. The own greeting is said
--- on it at once
-abbrev pub link_with : ℕ → Duration → Held
-link_with number since = record {
+-- HOW LINKS CAME ABOUT
+
+-- one came about like another
+abbrev pub is_way : Direction → Direction → Bool
+is_way Inbound Inbound = true
+is_way Dialing Dialing = true
+is_way Outbound Outbound = true
+is_way _ _ = false
+
+-- it is a dial whose stream isn't proved
+abbrev pub is_dialing : Held → Bool
+is_dialing h = is_way Dialing h.direction
+
+-- .. is proved
+abbrev pub is_dialer : Held → Bool
+is_dialer h = is_way Outbound h.direction
+
+-- how many of these links came about so
+abbrev pub count_of : {C : Type 0} → Direction → List (C × Held) → ℕ
+count_of way links = count_by (λ h. is_way way h.direction) (values_of links)
+
+-- a link that begins: its peer hasn't greeted, and nothing was heard of it, or asked. These frames
+-- are said on it at once
+abbrev pub begun : Direction → ℕ → Duration → List Duration → Held
+begun direction number since unwritten = record {
   number = number;
+  direction = direction;
   phase = Greeting;
   since = since;
   heard = since;
@@ -51,7 +76,30 @@ link_with number since = record {
   waiting = None;
   asked = record { at = since; index = None; rounds = 0 };
   looked = None;
-  unwritten = since ∷ [];
+  unwritten = unwritten;
+}
+
+-- that of a stream that came in: the own greeting is said on it at once
+abbrev pub link_with : ℕ → Duration → Held
+link_with number since = begun Inbound number since (since ∷ [])
+
+-- .. of a dial
+abbrev pub dial_with : ℕ → Duration → Held
+dial_with number since = begun Dialing number since []
+
+-- a dial is outbound once its stream is proved
+abbrev pub proved_way : Direction → Direction
+proved_way Inbound = Inbound
+proved_way Dialing = Outbound
+proved_way Outbound = Outbound
+
+-- what is kept of it then, if it is proved at t: its peer counts as heard
+abbrev pub reached : Duration → Held → Held
+reached t h = record h {
+  direction = proved_way h.direction;
+  since = t;
+  heard = t;
+  waiting = None;
 }
 
 -- the phase once the peer has greeted
@@ -161,11 +209,18 @@ abbrev pub one_if_greeting : Option Held → ℕ
 one_if_greeting link =
     unwrap_or (option_map (λ h. if is_greeting h.phase then 1 else 0) link) 0
 
+-- so long a peer may take that hasn't greeted: to its proof, if it was dialled, which takes some
+-- time, or to its greeting
+abbrev pub greets_in : Pace → Direction → ℕ
+greets_in pace Inbound = as_nanos pace.greeting
+greets_in pace Dialing = max (as_nanos pace.handshake) 1
+greets_in pace Outbound = as_nanos pace.greeting
+
 -- by when the peer of a link has to be heard: before it has greeted, and while nothing of it
--- waits, so long after its proof; else so long after it was heard last
-abbrev pub hear_by : ℕ → ℕ → Held → ℕ
-hear_by greeting silence h =
-    if is_ungreeted h then as_nanos h.since + greeting else as_nanos h.heard + silence
+-- waits, so long after its proof, or after a dial of it began; else so long after it was heard last
+abbrev pub hear_by : Pace → Held → ℕ
+hear_by pace h = if is_ungreeted h then as_nanos h.since + greets_in pace h.direction
+    else as_nanos h.heard + as_nanos pace.silence
 
 -- by when the oldest of these frames has to be written, if there is one: so long after it was said,
 -- which takes some time
@@ -174,8 +229,8 @@ write_by silence [] = None
 write_by silence (t ∷ later) = Some (as_nanos t + max silence 1)
 
 -- by when something has to come of a link: the earlier of these
-abbrev pub due : ℕ → ℕ → Held → ℕ
-due greeting silence h = lesser_of (write_by silence h.unwritten) (hear_by greeting silence h)
+abbrev pub due : Pace → Held → ℕ
+due pace h = lesser_of (write_by (as_nanos pace.silence) h.unwritten) (hear_by pace h)
 
 -- a frame was said before a moment, or at it, and isn't written
 abbrev pub is_unwritten_since : ℕ → List Duration → Bool
@@ -188,8 +243,8 @@ abbrev pub is_slow : Held → Bool
 is_slow h = is_ungreeted h || is_unwritten_since (as_nanos h.heard) h.unwritten
 
 -- a link is late: it isn't closed, and its time is over
-abbrev pub is_late : ℕ → ℕ → ℕ → Held → Bool
-is_late greeting silence now h = is_timed h.phase && nat_le (due greeting silence h) now
+abbrev pub is_late : Pace → ℕ → Held → Bool
+is_late pace now h = is_timed h.phase && nat_le (due pace h) now
 
 -- the peer has greeted, and the link isn't closed
 abbrev pub is_open : Phase → Bool
@@ -210,9 +265,9 @@ abbrev pub to_ask : {C : Type 0} → ℕ → ℕ → List (C × Held) → ℕ
 to_ask tick now links = count_by (is_to_ask tick now) (values_of links)
 
 -- when something is due of a link next: it is late, or its peer is to be asked
-abbrev pub next_of : ℕ → ℕ → ℕ → Held → ℕ
-next_of greeting silence tick h =
-    if is_open h.phase then min (due greeting silence h) (ask_at tick h) else due greeting silence h
+abbrev pub next_of : Pace → Held → ℕ
+next_of pace h =
+    if is_open h.phase then min (due pace h) (ask_at (as_nanos pace.tick) h) else due pace h
 
 -- the moment, or that of a link, if that is sooner and the link isn't closed
 abbrev pub sooner_of : (Held → ℕ) → Option ℕ → Held → Option ℕ

@@ -4,7 +4,7 @@
 -- nanoseconds.
 use Rattle.std.specs.Prelude.{ℕ, ◌≡◌, ◌==◌, ◌≤◌, ◌<◌, ◌&&◌, Bool, true, false, if◌then◌else◌}
 use Rattle.std.specs.Prelude.{List, [], ◌∷◌, ◌++◌, ◌+◌, length, map, slice_get}
-use Rattle.std.specs.Prelude.{Option, Some, None, option_map}
+use Rattle.std.specs.Prelude.{Option, Some, None}
 use Rattle.std.specs.List.{list_any}
 use Rattle.std.specs.Option.{IsSomeAnd}
 use Rattle.std.specs.Duration.{as_nanos, max_nanos}
@@ -16,7 +16,7 @@ use Rattle.p2p_driver.specs.Frames.{Cause, Outcome}
 use Rattle.p2p_driver.specs.Frames.Cause.{OfFrame, OfVerdicts, OfHead}
 use Rattle.p2p_driver.specs.Happenings.{Happening}
 use Rattle.p2p_driver.specs.Heads.{kind_of}
-use Rattle.p2p_driver.specs.Links.{is_open, is_expected}
+use Rattle.p2p_driver.specs.Links.{is_dialing, is_open, is_expected}
 use Rattle.p2p_driver.specs.Looked.{LookedView, looked_of}
 use Rattle.p2p_driver.specs.Meters.{MetersView}
 use Rattle.p2p_driver.specs.Reads.{reads_of, kept_in}
@@ -60,11 +60,12 @@ module _ {C S : Type 0} where
   -- by it link n began: when
   abbrev pub begins_as : ℕ → Happening C S → Option Duration
   begins_as n (Happening.Proved m p t draw) = if m == n then Some t else None
+  begins_as n (Happening.Dialed m p t draw word ingress) = if m == n then Some t else None
   begins_as n e = None
 
   -- .. it ended
   abbrev pub ends_as : ℕ → Happening C S → Bool
-  ends_as n (Happening.Ended m p t) = m == n
+  ends_as n (Happening.Ended m p t direction) = m == n
   ends_as n e = false
 
   -- by it a frame of link n may be read, or a message is said on it: when
@@ -143,10 +144,10 @@ module _ {C S : Type 0} (pace : Pace) (h : List (Happening C S)) (n now : ℕ) w
   ComesOfKind k l outcome = ⊥
 
   -- the cause was in its turn: a frame is the one that may be handed in, and whether one may be
-  -- read follows of its first bytes and its length
+  -- read follows of its first bytes and its length, on a link whose stream is proved
   abbrev pub IsPaced : PayloadConfig → Held → Cause → Outcome C S → Type 0
   IsPaced limits held (OfFrame frame wall) outcome = is_expected frame held ≡ true
   IsPaced limits held (OfVerdicts verdicts) outcome = Unit {0}
-  IsPaced limits held (OfHead longest head size) outcome = ComesOfKind
+  IsPaced limits held (OfHead longest head size) outcome = (is_dialing held ≡ false) × ComesOfKind
       (kind_of longest pace.channels.items limits (is_open held.phase) head size)
       (looked_of head size) outcome

@@ -1,10 +1,14 @@
 -- What calls of a node make of it, wherever it stood.
-use Rattle.std.specs.Prelude.{ℕ, ◌≡◌, Bool, true, false, ◌&&◌, not, nat_lt}
-use Rattle.std.specs.Prelude.{List, ◌∷◌, ◌++◌, length, Option, Some, None}
+use Rattle.std.specs.Prelude.{ℕ, ◌≡◌, ◌≤◌, ◌+◌, Bool, true, false, ◌&&◌, not, nat_lt}
+use Rattle.std.specs.Prelude.{◌%◌, List, ◌∷◌, ◌++◌, length, slice_get, Option, Some, None}
 use Rattle.std.specs.Prelude.{is_some, IfSome}
 use Rattle.std.specs.declared.cmp.Ordering.{Ordering}
-use Rattle.p2p_tracker.specs.Calls.{Call}
-use Rattle.p2p_tracker.specs.Calls.Call.{Track, Block}
+use Rattle.p2p_discovery.specs.declared.types.ingress.Ingress.{Ingress}
+use Rattle.p2p_tracker.specs.Calls.{Settings, Call}
+use Rattle.p2p_tracker.specs.Calls.Call.{Track, Block, Dial}
+use Rattle.p2p_tracker.specs.Lists.{Somebody}
+use Rattle.p2p_tracker.specs.World.{World}
+use Rattle.p2p_tracker.specs.Answers.{is_dialable, IsDialable, held_ingress, was_granted}
 use Rattle.p2p_tracker.specs.Answers.{IsTrackAnswer, may_listen_at, may_release, was_taken}
 use Rattle.p2p_tracker.specs.Answers.{may_connect, was_blocked}
 use Rattle.p2p_directory.specs.Run.{event_of, world_after}
@@ -18,10 +22,30 @@ use Rattle.std.specs.declared.time.Duration.{Duration}
 use Rattle.p2p_driver.specs.Frames.{Outcome}
 use Rattle.p2p_driver.specs.Questions.{IsQuestion}
 use Rattle.p2p_driver.specs.Happenings.{calls_for}
-use Rattle.p2p_driver.specs.Links.{link_of}
+use Rattle.p2p_driver.specs.Links.{link_of, count_of}
+use Rattle.p2p_driver.specs.declared.links.Direction.TheVariants.{Inbound, Dialing, Outbound}
 use Rattle.p2p_driver.specs.declared.links.Asked.{Asked}
 use Rattle.p2p_driver.specs.declared.links.Held.{Held}
 use Rattle.p2p_driver.specs.declared.pace.Pace.{Pace}
+
+-- the moment comes before another, if there is one
+abbrev pub is_before : ℕ → Option ℕ → Bool
+is_before t None = true
+is_before t (Some moment) = nat_lt t moment
+
+-- from a moment on, and before another, nobody may be dialled in a world
+abbrev pub IsQuietIn : {C S : Type 0} → Settings C S → World C S → ℕ → Option ℕ → Type 0
+IsQuietIn s w from until = (t : ℕ) → from ≤ t → is_before t until ≡ true → (p : _) →
+    is_dialable s w t p ≡ false
+
+-- of those who may be dialled in a world at t, in the order of their keys, p is the one at the
+-- position that a random word gives
+pub record IsChosenIn {C S : Type 0} (s : Settings C S) (w : World C S) (t word : ℕ) (p : C) :
+    Type 0 where
+  pub peers : List C
+  pub next : Option ℕ
+  pub dialable : IsDialable s w t peers next
+  pub chosen : slice_get peers (word % length peers) ≡ Some p
 
 -- a block of p at t, after these calls of a node, is taken, or isn't
 abbrev pub IsBlock : {C S : Type 0} → Made C S → List (Call C S) → C → ℕ → Bool → Type 0
@@ -31,9 +55,9 @@ IsBlock m calls p t taken = taken ≡ was_blocked (event_of m.directory calls (B
 -- asked, or a block is taken, if memory is there
 abbrev pub IsDone : {C S : Type 0} → Wire C S → Made C S → ℕ → Asked → List (Call C S) → C →
     Duration → Outcome C S → Type 0
-IsDone wire m refresh asked calls p t (Outcome.Greets info question) =
+IsDone wire m refresh asked calls p t (Outcome.Greets dialer info question) =
     IfSome question (IsQuestion wire m (world_after m.directory
-    (calls_for p t (Outcome.Greets info question) ++ calls)) refresh asked)
+    (calls_for p t (Outcome.Greets dialer info question) ++ calls)) refresh asked)
 IsDone wire m refresh asked calls p t (Outcome.Breaks breach blocked) =
     IfSome blocked (IsBlock m calls p (as_nanos t))
 IsDone wire m refresh asked calls p t outcome = Unit {0}
@@ -71,6 +95,36 @@ module _ {C S : Type 0} (cmp : C → C → Ordering) where
   abbrev pub MakesFor : C → Duration → Outcome C S → NodeView C S → NodeView C S → Type 0
   MakesFor p t outcome = Makes (calls_for p t outcome)
 
+  -- .. a dial is granted
+  abbrev pub IsGranted : C → ℕ → ℕ → NodeView C S → Type 0
+  IsGranted p t draw v = AtEach cmp v (λ m calls.
+      was_granted (event_of m.directory calls (Dial p t draw)) ≡ true)
+
+  -- .. these peers may be dialled, and it is of use to look again then
+  abbrev pub AreDialable : ℕ → List C → Option ℕ → NodeView C S → Type 0
+  AreDialable t ps next v = AtEach cmp v (λ m calls.
+      IsDialable m.directory (world_after m.directory calls) t ps next)
+
+  -- .. from a moment on, and before another, nobody may be dialled
+  abbrev pub StaysQuiet : ℕ → Option ℕ → NodeView C S → Type 0
+  StaysQuiet t next v = AtEach cmp v (λ m calls.
+      IsQuietIn m.directory (world_after m.directory calls) t next)
+
+  -- .. a peer is that one of those who may be dialled that stands at the position of a random word
+  abbrev pub IsChosen : ℕ → ℕ → C → NodeView C S → Type 0
+  IsChosen t word p v = AtEach cmp v (λ m calls. IsChosenIn m.directory
+      (world_after m.directory calls) t word p)
+
+  -- .. somebody may be
+  abbrev pub MayBeDialled : ℕ → NodeView C S → Type 0
+  MayBeDialled t v = AtEach cmp v (λ m calls.
+      Somebody (is_dialable m.directory (world_after m.directory calls) t))
+
+  -- .. this address is known of a peer
+  abbrev pub IsAddress : C → Ingress → NodeView C S → Type 0
+  IsAddress p ingress v = AtEach cmp v (λ m calls.
+      held_ingress m.directory (world_after m.directory calls) p ≡ Some ingress)
+
   -- .. a track is accepted
   abbrev pub IsTaken : ℕ → List C → List C → NodeView C S → Type 0
   IsTaken index primary secondary v = AtEach cmp v (λ m calls.
@@ -87,8 +141,15 @@ module _ {C S : Type 0} (cmp : C → C → Ordering) where
 -- it has no link
 abbrev pub comes_by : {C : Type 0} → (C → C → Ordering) → Pace → List (C × Held) → C → Bool → Bool
 comes_by cmp pace links p granted =
-    (nat_lt (length links) pace.links && nat_lt (length links) pace.inbound)
+    (nat_lt (length links) pace.links && nat_lt (count_of Inbound links) pace.inbound)
     && (not (is_some (link_of cmp links p)) && granted)
+
+-- another dial has a place: there is one for one more link, one for one more outbound link, and one
+-- for one more dial under way
+abbrev pub dials_by : {C : Type 0} → Pace → List (C × Held) → Bool
+dials_by pace links = nat_lt (length links) pace.links
+    && (nat_lt (count_of Dialing links + count_of Outbound links) pace.outbound
+    && nat_lt (count_of Dialing links) pace.dials)
 
 -- a stream has claimed to be p's
 abbrev pub is_claim_of : {C : Type 0} → (C → C → Ordering) → C → Option C → Bool

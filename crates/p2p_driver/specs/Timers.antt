@@ -1,10 +1,10 @@
 -- Timers: what is late, and what a driver does of it when time passes.
-use Rattle.std.specs.Prelude.{ℕ, ◌≡◌, ◌+◌, ◌<◌, ◌||◌, not, max, min, Bool, true, false}
-use Rattle.std.specs.Prelude.{List, [], ◌∷◌, ◌++◌}
+use Rattle.std.specs.Prelude.{ℕ, ◌≡◌, ◌+◌, ◌<◌, ◌&&◌, ◌||◌, not, max, min, Bool, true, false}
+use Rattle.std.specs.Prelude.{List, [], ◌∷◌, ◌++◌, slice_get, if◌then◌else◌}
 use Rattle.std.specs.Prelude.{length, find, Option, Some, None, option_map, is_some}
-use Rattle.std.specs.Prelude.{Result}
+use Rattle.std.specs.Prelude.{Result, Ok, Err}
 use Rattle.std.specs.Result.{is_ok}
-use Rattle.std.specs.List.{list_all}
+use Rattle.std.specs.List.{count_by, list_all}
 use Rattle.std.specs.Duration.{as_nanos, max_nanos}
 use Rattle.std.specs.declared.alloc.AllocError.{AllocError}
 use Rattle.std.specs.declared.cmp.Ordering.{Ordering}
@@ -17,8 +17,14 @@ use Rattle.p2p_directory.specs.declared.node.setup.Setup.{Setup}
 use Rattle.p2p_driver.specs.Arrivals.{has_number, deadline_of, IsLeastDeadline}
 use Rattle.p2p_driver.specs.Drivers.{DriverView, DriverStandsAt, Does, base_of}
 use Rattle.p2p_driver.specs.Happenings.{Happening}
-use Rattle.p2p_driver.specs.Links.{link_of, is_late, needs, is_to_ask, to_ask, next_of, IsLeastDue}
+use Rattle.p2p_driver.specs.Links.{link_of, count_of, is_late, needs, is_to_ask, to_ask, next_of}
+use Rattle.p2p_driver.specs.Links.{IsLeastDue}
+use Rattle.p2p_driver.specs.Steps.{dials_by, is_before}
+use Rattle.p2p_discovery.specs.declared.types.ingress.Ingress.{Ingress}
 use Rattle.p2p_driver.specs.declared.arrivals.Arrival.{Arrival}
+use Rattle.p2p_driver.specs.declared.driver.dialing.Dialed.{Dialed}
+use Rattle.p2p_driver.specs.declared.driver.dialing.Dialed.TheVariants as dialed
+use Rattle.p2p_driver.specs.declared.links.Direction.TheVariants.{Dialing}
 use Rattle.p2p_driver.specs.declared.links.Held.{Held}
 use Rattle.p2p_driver.specs.declared.pace.Pace.{Pace}
 use Rattle.p2p_driver.specs.declared.questions.Question.{Question}
@@ -50,9 +56,53 @@ module _ {C S : Type 0} where
   was_asked (Happening.Asked n p at owed fits question) = is_some question || not fits
   was_asked _ = true
 
+  -- a dial begins
+  abbrev pub is_dial : Happening C S → Bool
+  is_dial (Happening.Dialed n p at draw word ingress) = true
+  is_dial _ = false
+
+  -- by it a dial begins at t, by the word at position k of these, or memory is refused for one
+  abbrev pub IsDialedAt : Duration → List ℕ → ℕ → Happening C S → Type 0
+  IsDialedAt t words k (Happening.Dialed n p at draw word ingress) =
+      (at ≡ t) × (slice_get words k ≡ Some word)
+  IsDialedAt t words k (Happening.Undialed at) = at ≡ t
+  IsDialedAt t words k _ = ⊥
+
+  -- .. by each of them, the newest first: each dial by the word after that of the dial before it
+  abbrev pub AreDialedAt : Duration → List ℕ → List (Happening C S) → Type 0
+  AreDialedAt t words [] = Unit {0}
+  AreDialedAt t words (e ∷ es) =
+      IsDialedAt t words (count_by is_dial es) e × AreDialedAt t words es
+
+  -- memory was there for a dial, if it is one
+  abbrev pub was_dialed : Happening C S → Bool
+  was_dialed (Happening.Undialed at) = false
+  was_dialed _ = true
+
   -- how much there is that may be late: streams, and what links need
   abbrev pub pending : DriverView C S → ℕ
   pending v = length v.arrivals + needs v.links
+
+-- the later of a moment and another, if there is one
+abbrev pub not_before : ℕ → Option ℕ → Option ℕ
+not_before moment other = option_map (λ m. max m moment) other
+
+-- from when on it is looked for somebody to dial, if that may be of use: not before it is tried
+-- again since memory was refused
+abbrev pub dial_at : {C S : Type 0} → DriverView C S → Option ℕ
+dial_at v = not_before v.next_dial.retry (option_map as_nanos v.next_dial.from)
+
+-- somebody is to be dialled at t, if somebody may be: it is time, and a dial has a place
+abbrev pub is_to_dial : {C S : Type 0} → ℕ → DriverView C S → Bool
+is_to_dial t v = not (is_before t (dial_at v)) && dials_by v.pace v.links
+
+-- .. nobody is
+abbrev pub NoneToDial : {C S : Type 0} → ℕ → DriverView C S → Type 0
+NoneToDial t v = is_to_dial t v ≡ false
+
+-- from when on somebody may be dialled, while a dial has a place
+abbrev pub dial_due : {C S : Type 0} → DriverView C S → Option ℕ
+dial_due v = if dials_by v.pace v.links then dial_at v else None
 
 module _ {C S : Type 0} (cmp : C → C → Ordering) where
   -- no stream is late at t, and no link
@@ -60,7 +110,7 @@ module _ {C S : Type 0} (cmp : C → C → Ordering) where
     pub streams : (n : ℕ) (a : Arrival C) → find (has_number n) v.arrivals ≡ Some a →
         t < deadline_of (as_nanos v.pace.first) (as_nanos v.pace.handshake) a
     pub links : (p : C) (held : Held) → link_of cmp v.links p ≡ Some held →
-        is_late (as_nanos v.pace.greeting) (as_nanos v.pace.silence) t held ≡ false
+        is_late v.pace t held ≡ false
 
   -- no peer is to be asked at t
   abbrev pub NoneToAsk : ℕ → DriverView C S → Type 0
@@ -82,8 +132,8 @@ earlier (Some m) (Some n) = Some (min m n)
 abbrev pub held_moment : Option ℕ → Option ℕ
 held_moment moment = option_map (λ n. min n max_nanos) moment
 
--- the first moment at which something is due: a stream or a link is late, a peer is to be asked, or
--- a block or a cooldown ends
+-- the first moment at which something is due: a stream or a link is late, a peer is to be asked, a
+-- block or a cooldown ends, or it is to be looked for somebody to dial
 pub record IsNextTimeout {C S : Type 0} (cmp : C → C → Ordering) (v : DriverView C S)
     (next : Option ℕ) : Type 0 where
   pub stream : Option ℕ
@@ -92,12 +142,11 @@ pub record IsNextTimeout {C S : Type 0} (cmp : C → C → Ordering) (v : Driver
   pub cooldown : Option ℕ
   pub streams :
       IsLeastDeadline (as_nanos v.pace.first) (as_nanos v.pace.handshake) v.arrivals stream
-  pub links : IsLeastDue cmp (next_of (as_nanos v.pace.greeting) (as_nanos v.pace.silence)
-      (as_nanos v.pace.tick)) v.links link
+  pub links : IsLeastDue cmp (next_of v.pace) v.links link
   pub blocks : IsLeastOf (unblock_of cmp v.node.directory) block
   pub cooldowns : IsLeastOf (dial_moment_in cmp v.node.directory) cooldown
-  pub next_is : next ≡
-      earlier (earlier (held_moment stream) (held_moment link)) (earlier block cooldown)
+  pub next_is : next ≡ earlier (held_moment (dial_due v))
+      (earlier (earlier (held_moment stream) (held_moment link)) (earlier block cooldown))
 
 -- but for the time, all is as it was: a driver and what it asked of its node, of which no block and
 -- no cooldown ended
@@ -156,9 +205,51 @@ module _ {C S : Type 0} (cmp : C → C → Ordering) (wire : Wire C S) where
     pub does : DoesAll happenings v v2
     pub latest : v2.latest ≡ v.latest
 
+  -- a dial of p begins at t, by a random word
+  pub record BeginsOne (t : Duration) (word : ℕ) (p : C) (v v2 : DriverView C S) : Type 0 where
+    pub number : ℕ
+    pub draw : Duration
+    pub ingress : Ingress
+    pub does : Does cmp wire (Happening.Dialed number p t draw word ingress) v v2
+    pub latest : v2.latest ≡ v.latest
+    pub pace : v2.pace ≡ v.pace
+    pub late : NoneLate cmp (as_nanos t) v → NoneLate cmp (as_nanos t) v2
+    pub to_ask : NoneToAsk cmp (as_nanos t) v → NoneToAsk cmp (as_nanos t) v2
+    pub more : count_of Dialing v2.links ≡ count_of Dialing v.links + 1
+
+  -- .. or memory is refused, and nothing changes
+  abbrev pub Begins : Duration → ℕ → C → Result (Unit {0}) AllocError → DriverView C S →
+      DriverView C S → Type 0
+  Begins t word p (Ok done) v v2 = BeginsOne t word p v v2
+  Begins t word p (Err e) v v2 = v2 ≡ v
+
+  -- it is looked for somebody to dial at t, with a random word: a dial begins, or memory is refused
+  -- for one, or else nobody is to be dialled
+  abbrev pub DialsOne : Duration → ℕ → Dialed → DriverView C S → DriverView C S → Type 0
+  DialsOne t word dialed.Begun v v2 = (is_to_dial (as_nanos t) v ≡ true)
+      × ((p : C) × BeginsOne t word p v v2)
+  DialsOne t word dialed.Memory v v2 = (is_to_dial (as_nanos t) v ≡ true)
+      × Does cmp wire (Happening.Undialed t) v v2
+      × ((retry : ℕ) × (v2 ≡ record v { next_dial = record v.next_dial { retry = retry } }))
+      × NoneToDial (as_nanos t) v2
+  DialsOne t word dialed.Nobody v v2 = DoesAll [] v v2
+      × ((from : Option Duration)
+      × (v2 ≡ record v { next_dial = record v.next_dial { from = from } }))
+      × NoneToDial (as_nanos t) v2 × (NoneToDial (as_nanos t) v → v2 ≡ v)
+
+  -- .. as often as there are words: whether memory was there
+  pub record DialsAll (t : Duration) (words : List ℕ) (result : Result (Unit {0}) AllocError)
+      (v v2 : DriverView C S) : Type 0 where
+    pub happenings : List (Happening C S)
+    pub are_dialed : AreDialedAt t words happenings
+    pub all : list_all was_dialed happenings ≡ is_ok result
+    pub does : DoesAll happenings v v2
+    pub latest : v2.latest ≡ v.latest
+
   -- at the later of the latest time and this one, what ends by then ends: cooldowns and blocks.
-  -- Then some that are late are closed, and then some are asked: whether memory was there for all
-  pub record TimesOut (now : ℕ) (result : Result (Unit {0}) AllocError)
+  -- Then some that are late are closed, then some are asked, and then some are dialled: whether
+  -- memory was there for all
+  pub record TimesOut (now : ℕ) (words : List ℕ) (result : Result (Unit {0}) AllocError)
       (v v2 : DriverView C S) : Type 0 where
     pub time : Duration
     pub time_is : as_nanos time ≡ max v.latest now
@@ -166,5 +257,7 @@ module _ {C S : Type 0} (cmp : C → C → Ordering) (wire : Wire C S) where
     pub are_late : AreLateAt time late
     pub asked : List (Happening C S)
     pub are_asked : AreAskedAt time asked
-    pub all : list_all was_asked asked ≡ is_ok result
-    pub does : DoesAll (asked ++ (late ++ Happening.Passed time ∷ [])) v v2
+    pub dialed : List (Happening C S)
+    pub are_dialed : AreDialedAt time words dialed
+    pub all : (list_all was_asked asked && list_all was_dialed dialed) ≡ is_ok result
+    pub does : DoesAll (dialed ++ (asked ++ (late ++ Happening.Passed time ∷ []))) v v2

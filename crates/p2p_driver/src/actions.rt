@@ -10,6 +10,7 @@ use crate::link::Link;
 use bytes::Bytes;
 use p2p_discovery::codec::CodecError;
 use p2p_discovery::discovery::Error;
+use p2p_discovery::types::Ingress;
 use std::alloc::{AllocError, Global};
 use std::collections::VecDeque;
 use std::marker::Model;
@@ -17,6 +18,15 @@ use std::marker::Model;
 /// What a host does next.
 #[derive(Debug, Drop)]
 pub enum Action<C> {
+    /// It connects to the peer at the address, and authenticates it as that peer.
+    Dial {
+        /// Which link.
+        link: Link,
+        /// The peer.
+        peer: C,
+        /// Its address.
+        ingress: Ingress,
+    },
     /// It sends the frame on the link.
     Send {
         /// On which link.
@@ -51,11 +61,12 @@ pub enum Event<C> {
 pub enum Why {
     /// Others need its place, or too many claims were answered.
     Crowded,
-    /// A claim, a proof or a greeting came too late, or a frame wasn't written in time.
+    /// A claim, a proof or a greeting came too late, a dial took too long, or a frame wasn't
+    /// written in time.
     Slow,
     /// Nothing was heard of its peer for too long.
     Silent,
-    /// The peer proved as another key than it claimed, or without a claim.
+    /// The peer proved as another key than it claimed, or than was dialled, or without a claim.
     WrongKey,
     /// The peer isn't let in now.
     NotGranted,
@@ -231,6 +242,11 @@ fn is_of<C>(action: &Action<C>, link: Link) -> bool
     ensures { result ≡ is_of_link link.0 action.now }
 {
     match action {
+        Action::Dial {
+            link: other,
+            peer: _,
+            ingress: _,
+        } => other.0 == link.0,
         Action::Send {
             link: other,
             frame: _,

@@ -2,31 +2,38 @@
 //! and end. Room for what has to be said when a link ends is promised when it begins.
 
 ghost use Rattle.std.specs.Prelude.{◌≡◌, ◌≤◌, ◌+◌, ◌++◌, [], ◌∷◌, None, Some, OnOk, OnErr, length};
+ghost use Rattle.std.specs.Prelude.{IfOk, IfSome};
+ghost use Rattle.std.specs.Option.{IsSomeAnd};
 ghost use Rattle.std.specs.Prelude.{if◌then◌else◌, is_some, option_map, true, ℕ, ◌==◌};
 ghost use Rattle.std.specs.BTreeMap.{is_at};
 ghost use Rattle.std.specs.Duration.{as_nanos};
 ghost use Rattle.p2p_discovery.specs.Ordered.{has_key};
-ghost use Rattle.p2p_tracker.specs.Calls.Call.{Listen, Release};
+ghost use Rattle.p2p_tracker.specs.Calls.Call.{Dial, Listen, Release};
 ghost use Rattle.p2p_tracker.specs.Answers.{may_listen_at};
 ghost use Rattle.p2p_directory.specs.Nodes.{AtEach, IsSame};
 ghost use Rattle.p2p_directory.specs.Run.{world_after};
-ghost use Rattle.p2p_driver.specs.Steps.{comes_by, is_claim_of, no_proof_of};
+ghost use Rattle.p2p_driver.specs.Steps.{comes_by, dials_by, is_claim_of, no_proof_of};
 ghost use Rattle.p2p_driver.specs.Happenings.{shut, shut_all, shut_in, closed_at};
-ghost use Rattle.p2p_driver.specs.Happenings.{parted, downed, sent, why_late};
+ghost use Rattle.p2p_driver.specs.Happenings.{parted, downed, dialing, sent, why_late};
 ghost use Rattle.p2p_driver.specs.Links.{link_of, link_with, need_of, need_at, needs, closed};
+ghost use Rattle.p2p_driver.specs.Links.{count_of, is_way, dial_with, saying, reached, is_dialing};
 ghost use Rattle.p2p_driver.specs.Reads.{reads_of, unread};
-ghost use Rattle.p2p_driver.specs.Steps.{IsBusy, Makes, MayListen};
+ghost use Rattle.p2p_driver.specs.Steps.{IsBusy, Makes, MayListen, IsGranted};
+ghost use Rattle.p2p_driver.specs.Steps.{IsAddress};
+ghost use Rattle.p2p_driver.specs.declared.links.Direction.{Direction};
+ghost use Rattle.p2p_driver.specs.declared.links.Direction.TheVariants as Direction;
 ghost use Rattle.p2p_driver.specs.declared.links.Held.{Held};
 
 use crate::actions::{Action, Actions, Event, Why};
 use crate::link::Link;
-use crate::links::{Links, Phase};
+use crate::links::{Direction, Links, Phase};
 use crate::pace::{Channel, Pace};
 use crate::reads::Reads;
 use crate::steps;
 use bytes::Bytes;
 use p2p_directory::node::Node;
 use p2p_discovery::codec::PublicKey;
+use p2p_discovery::types::Ingress;
 use std::alloc::AllocError;
 use std::time::Duration;
 
@@ -56,7 +63,8 @@ pub(crate) fn begin<C: PublicKey>(
         (Listen peer (as_nanos now) (as_nanos draw) ∷ []) node.old node.new) }
     ensures links { OnOk result ((q : C) → link_of C.cmp links.new q ≡
         (if is_at (C.cmp peer) q then Some (link_with number now) else link_of C.cmp links.old q)) }
-    ensures count { OnOk result (length links.new ≡ length links.old + 1) }
+    ensures counts { OnOk result ((way : Direction) → count_of way links.new
+        ≡ count_of way links.old + (if is_way way Direction.Inbound then 1 else 0)) }
     ensures said { OnOk result (actions.new.items
         ≡ actions.old.items ++ sent number greeting.now) }
     ensures needs { OnOk result (needs links.new ≡ needs links.old + 1) }
@@ -92,6 +100,109 @@ pub(crate) fn begin<C: PublicKey>(
     Ok(())
 }
 
+// Reserves a peer for a dial, keeps its link, of which nothing was read, and has it dialled at its
+// address.
+pub(crate) fn dial<C: PublicKey>(
+    node: &mut Node<C>,
+    reads: &mut Reads,
+    links: &mut Links<C>,
+    actions: &mut Actions<C>,
+    peer: C,
+    number: u64,
+    channels: &[Channel],
+    now: Duration,
+    draw: Duration,
+) -> Result<Ingress, AllocError>
+    requires unread { reads_of reads.old number ≡ None }
+    requires unlinked { link_of C.cmp links.old peer ≡ None }
+    requires unused { (q : C) (held : Held) → link_of C.cmp links.old q ≡ Some held →
+        held.number ≡ number → ⊥ }
+    requires granted { IsGranted C.cmp peer (as_nanos now) (as_nanos draw) node.old }
+    ensures reads { OnOk result ((n : ℕ) → reads_of reads.new n ≡
+        (if n == number then Some (unread (length channels.now + length channels.now))
+        else reads_of reads.old n)) }
+    ensures made { OnOk result (Makes C.cmp
+        (Dial peer (as_nanos now) (as_nanos draw) ∷ []) node.old node.new) }
+    ensures address { IfOk result (λ ingress. IsAddress C.cmp peer ingress node.old) }
+    ensures links { OnOk result ((q : C) → link_of C.cmp links.new q ≡
+        (if is_at (C.cmp peer) q then Some (dial_with number now) else link_of C.cmp links.old q)) }
+    ensures counts { OnOk result ((way : Direction) → count_of way links.new
+        ≡ count_of way links.old + (if is_way way Direction.Dialing then 1 else 0)) }
+    ensures said { IfOk result (λ ingress. actions.new.items
+        ≡ actions.old.items ++ dialing number peer ingress) }
+    ensures needs { OnOk result (needs links.new ≡ needs links.old + 1) }
+    ensures room { OnOk result (actions.new.room ≡ actions.old.room + 1) }
+    ensures err { OnErr result (IsSame node.old node.new × (reads.new ≡ reads.old)
+        × (links.new ≡ links.old) × (actions.new.items ≡ actions.old.items)
+        × (actions.new.room ≡ actions.old.room)) }
+{
+    let Some(ingress) = steps::ingress(node, &peer) else {
+        return Err(AllocError);
+    };
+    let said = ingress.clone()?;
+    // Those that are read, and those that are said.
+    let Some(places) = channels.len().checked_add(channels.len()) else {
+        return Err(AllocError);
+    };
+    reads.begin(number, places)?;
+    if let Err(failed) = links.dial(peer, number, now) {
+        reads.end(number);
+        return Err(failed);
+    }
+    if actions.reserve(2).is_err() {
+        let _held = links.remove(&peer);
+        reads.end(number);
+        return Err(AllocError);
+    }
+    if !steps::dial(node, &peer, now, draw) {
+        let _held = links.remove(&peer);
+        reads.end(number);
+        actions.give_back(2);
+        return Err(AllocError);
+    }
+    actions.push(Action::Dial {
+        link: Link(number),
+        peer,
+        ingress,
+    });
+    Ok(said)
+}
+
+// The stream of a dial of the peer is proved: the greeting is sent on it.
+pub(crate) fn reach<C: PublicKey>(
+    links: &mut Links<C>,
+    actions: &mut Actions<C>,
+    greeting: &Bytes,
+    peer: &C,
+    number: u64,
+    now: Duration,
+) -> Result<(), AllocError>
+    ensures links { OnOk result ((q : C) → link_of C.cmp links.new q ≡
+        (if is_at (C.cmp peer.now) q
+        then option_map (λ h. saying (Some now) (reached now h)) (link_of C.cmp links.old q)
+        else link_of C.cmp links.old q)) }
+    ensures counts { OnOk result
+        (IsSomeAnd (link_of C.cmp links.old peer.now) (λ h. is_dialing h ≡ true) →
+        (way : Direction) → count_of way links.new + (if is_way way Direction.Dialing then 1 else 0)
+        ≡ count_of way links.old + (if is_way way Direction.Outbound then 1 else 0)) }
+    ensures said { OnOk result (actions.new.items ≡ actions.old.items ++ sent number greeting.now) }
+    ensures needs { needs links.new ≡ needs links.old }
+    ensures room { actions.new.room ≡ actions.old.room }
+    ensures err { OnErr result ((links.new ≡ links.old) × (actions.new.items ≡ actions.old.items)) }
+{
+    let frame = greeting.clone()?;
+    actions.reserve(1)?;
+    if !links.reach(peer, now) {
+        actions.give_back(1);
+        return Err(AllocError);
+    }
+    actions.push(Action::Send {
+        link: Link(number),
+        frame,
+    });
+    Ok(())
+}
+
 // Releases a peer whose link ended. Who was told that it's up is told that it's down.
 pub(crate) fn end<C: PublicKey>(
     node: &mut Node<C>,
@@ -105,7 +216,9 @@ pub(crate) fn end<C: PublicKey>(
     ensures made { Makes C.cmp (Release peer.now ∷ []) node.old node.new }
     ensures links { (q : C) → link_of C.cmp links.new q ≡
         (if is_at (C.cmp peer.now) q then None else link_of C.cmp links.old q) }
-    ensures count { length links.new + 1 ≡ length links.old }
+    ensures counts { IfSome (link_of C.cmp links.old peer.now) (λ held. (way : Direction) →
+        count_of way links.new + (if is_way way held.direction then 1 else 0)
+        ≡ count_of way links.old) }
     ensures said { actions.new.items
         ≡ actions.old.items ++ parted peer.now (link_of C.cmp links.old peer.now) }
     ensures room { needs links.new + actions.old.room ≡ actions.new.room + needs links.old }
@@ -140,7 +253,7 @@ pub(crate) fn shut<C: PublicKey>(links: &mut Links<C>, actions: &mut Actions<C>,
     requires { needs links.old ≤ actions.old.room }
     ensures links { (q : C) → link_of C.cmp links.new q ≡
         closed_at C.cmp peer.now (link_of C.cmp links.old) q }
-    ensures count { length links.new ≡ length links.old }
+    ensures counts { (way : Direction) → count_of way links.new ≡ count_of way links.old }
     ensures said { actions.new.items
         ≡ actions.old.items ++ shut peer.now why (link_of C.cmp links.old peer.now) }
     ensures room { needs links.new + actions.old.room ≡ actions.new.room + needs links.old }
@@ -189,7 +302,7 @@ pub(crate) fn shut_all<C: PublicKey>(links: &mut Links<C>, actions: &mut Actions
     ensures links { (q : C) → link_of C.cmp links.new q ≡
         (if has_key C.cmp peers.now q then option_map closed (link_of C.cmp links.old q)
         else link_of C.cmp links.old q) }
-    ensures count { length links.new ≡ length links.old }
+    ensures counts { (way : Direction) → count_of way links.new ≡ count_of way links.old }
     ensures said { actions.new.items
         ≡ actions.old.items ++ shut_all C.cmp peers.now (link_of C.cmp links.old) }
     ensures room { needs links.new + actions.old.room ≡ actions.new.room + needs links.old }
@@ -211,9 +324,18 @@ pub(crate) fn may_come<C: PublicKey>(
         (may_listen_at m.directory (world_after m.directory calls) peer.now (as_nanos now))) }
 {
     links.len() < pace.links
-        && links.len() < pace.inbound
+        && links.count_of(Direction::Inbound) < pace.inbound
         && links.get(peer).is_none()
         && node.may_listen(peer, now)
+}
+
+// Whether another dial has a place.
+pub(crate) fn has_dial_place<C: PublicKey>(links: &Links<C>, pace: &Pace) -> bool
+    ensures { result ≡ dials_by pace.now links.now }
+{
+    let dialing = links.count_of(Direction::Dialing);
+    let outbound = dialing as u128 + links.count_of(Direction::Outbound) as u128;
+    links.len() < pace.links && outbound < pace.outbound as u128 && dialing < pace.dials
 }
 
 // Why a stream that is proved to be of a peer doesn't become a link, if it doesn't: it didn't claim

@@ -1,6 +1,6 @@
 //! A driver of a node: events come in, actions go out.
 
-ghost use Rattle.std.specs.Prelude.{◌≡◌, ◌<◌, ◌-◌, ◌^◌, [], None, Ok};
+ghost use Rattle.std.specs.Prelude.{◌≡◌, ◌≤◌, ◌<◌, ◌-◌, ◌^◌, [], None, Ok};
 ghost use Rattle.std.specs.Prelude.{IfOk, IfSome, IfNone, OnErr, max, length};
 ghost use Rattle.std.specs.Int.{w128, from_be_bytes};
 ghost use Rattle.std.specs.Duration.{as_nanos};
@@ -8,15 +8,16 @@ ghost use Rattle.std.specs.Int.NonZero.{non_zero_usize_get};
 ghost use Rattle.p2p_directory.specs.Nodes.{NodeView};
 ghost use Rattle.p2p_driver.specs.Drivers.{DriverStandsAt, base_of, Comes, HasNoRoom};
 ghost use Rattle.p2p_driver.specs.Drivers.{AnswersClaim, AnswersProof, AnswersEnd, AnswersNext};
-ghost use Rattle.p2p_driver.specs.Drivers.{jitter_of};
+ghost use Rattle.p2p_driver.specs.Drivers.{jitter_of, DialProvedBy};
 ghost use Rattle.p2p_directory.specs.Held.{ReleasesAll};
 ghost use Rattle.p2p_driver.specs.Origins.{origin_of};
 
-use crate::actions::{Action, Actions};
+use crate::actions::{Action, Actions, Why};
 use crate::answers::Answers;
 use crate::arrivals::{Arrivals, Room};
 use crate::link::{Link, Now};
 use crate::links::Links;
+use crate::next_dial::NextDial;
 use crate::origin::Origin;
 use crate::pace::Pace;
 use crate::reads::Reads;
@@ -32,6 +33,7 @@ use std::marker::Model;
 use std::time::Duration;
 
 mod application;
+mod dialing;
 mod frames;
 mod queries;
 mod reading;
@@ -55,6 +57,7 @@ pub struct Driver<C: PublicKey> {
     greeting: Bytes,
     // Between two reservations of one peer.
     cooldown: Duration,
+    next_dial: NextDial,
     latest: Duration,
     next: u64,
     arrivals: Arrivals<C>,
@@ -70,13 +73,13 @@ impl<C: PublicKey> Model for Driver<C> {
 
     ghost Value = { DriverView C C.Signature };
 
-    ghost view = { λ d. seen d.node d.pace d.greeting (as_nanos d.cooldown) (as_nanos d.latest)
-        d.next d.arrivals d.answers d.reads d.links d.actions.items };
+    ghost view = { λ d. seen d.node d.pace d.greeting (as_nanos d.cooldown) d.next_dial
+        (as_nanos d.latest) d.next d.arrivals d.answers d.reads d.links d.actions.items };
 
     ghost invariant = { λ d. DriverStands C.cmp (wire_with C.verifies C.spelled C.Signature.spelled
         C.SIZE C.value C.Signature.SIZE C.Signature.value) (seen d.node d.pace d.greeting
-        (as_nanos d.cooldown) (as_nanos d.latest) d.next d.arrivals d.answers d.reads d.links
-        d.actions.items)
+        (as_nanos d.cooldown) d.next_dial (as_nanos d.latest) d.next d.arrivals d.answers d.reads
+        d.links d.actions.items)
         × HasRoom d.arrivals d.answers d.links d.actions };
 }
 
@@ -108,6 +111,10 @@ impl<C: PublicKey> Driver<C> {
             pace,
             greeting,
             cooldown,
+            next_dial: NextDial {
+                from: Some(Duration::ZERO),
+                retry: 0,
+            },
             latest: Duration::ZERO,
             next: 1,
             arrivals: Arrivals::new(alloc),
@@ -211,7 +218,11 @@ impl<C: PublicKey> Driver<C> {
     /// `WrongKey` if it hasn't claimed to be that peer's, or as `NotGranted`, and its number is
     /// unknown from now on.
     ///
-    /// False, and nothing changes, if there is no such stream, or it is a link.
+    /// The stream of a dial becomes outbound if it is authenticated as the peer's that was dialled,
+    /// and the own greeting is sent on it. Else it is closed as `WrongKey`.
+    ///
+    /// False, and nothing changes, if there is no such stream, or it is a link that was proved or
+    /// that is closing.
     ///
     /// # Errors
     ///
@@ -224,10 +235,10 @@ impl<C: PublicKey> Driver<C> {
         ensures { let wire = ⟦<C as Frames>⟧.wire in AnswersProof C.cmp wire link.0 peer word
             (as_nanos now.steady) result self.old self.new }
     {
-        let Some(stream) = self.arrivals.get(link.0) else {
-            return Ok(false);
-        };
         let now = later(self.latest, now.steady);
+        let Some(stream) = self.arrivals.get(link.0) else {
+            return self.reached(link, &peer, now);
+        };
         match connections::no_proof(
             &self.node,
             &self.links,
@@ -264,14 +275,45 @@ impl<C: PublicKey> Driver<C> {
                 }
                 streams::leave(&mut self.arrivals, &mut self.answers, link.0);
                 self.latest = now;
+                self.next_dial.from = Some(Duration::ZERO);
                 Ok(true)
             }
         }
     }
 
-    /// The stream has ended. A link releases its peer. It returns whether there was such a stream
-    /// or link: its number is unknown from now on. Nothing changes if there was none. It doesn't
-    /// allocate.
+    // The stream of a dial is authenticated as the peer's: it is outbound from now on if that peer
+    // was dialled, else it is closed.
+    fn reached(&mut self, link: Link, peer: &C, now: Duration) -> Result<bool, AllocError>
+        requires { self.old.latest ≤ as_nanos now }
+        ensures { let wire = ⟦<C as Frames>⟧.wire in DialProvedBy C.cmp wire result link.0 peer.now
+            (as_nanos now) self.old self.new }
+    {
+        let Some(dialed) = self.links.find(link.0) else {
+            return Ok(false);
+        };
+        let Some(held) = self.links.get(&dialed) else {
+            return Ok(false);
+        };
+        if !held.is_dialing() {
+            return Ok(false);
+        }
+        if !held.is_timed() {
+            return Ok(false);
+        }
+        if dialed.cmp(peer).is_eq() {
+            let (links, actions) = (&mut self.links, &mut self.actions);
+            connections::reach(links, actions, &self.greeting, peer, link.0, now)?;
+            self.latest = now;
+            return Ok(true);
+        }
+        self.latest = now;
+        connections::shut(&mut self.links, &mut self.actions, &dialed, Why::WrongKey);
+        Ok(false)
+    }
+
+    /// The stream has ended, or the dial failed. A link releases its peer. It returns whether there
+    /// was such a stream or link: its number is unknown from now on. Nothing changes if there was
+    /// none. It doesn't allocate.
     ///
     /// # Cost
     ///
@@ -290,6 +332,7 @@ impl<C: PublicKey> Driver<C> {
             return false;
         };
         connections::end(&mut self.node, &mut self.links, &mut self.actions, &peer);
+        self.next_dial.from = Some(Duration::ZERO);
         self.reads.end(link.0);
         self.latest = later(self.latest, now.steady);
         true
@@ -317,6 +360,7 @@ impl<C: PublicKey> Driver<C> {
             pace: _,
             greeting: _,
             cooldown: _,
+            next_dial: _,
             latest: _,
             next: _,
             arrivals: _,
@@ -330,7 +374,7 @@ impl<C: PublicKey> Driver<C> {
 }
 
 // The jitter of a grant, by a random word.
-fn jitter(cooldown: Duration, word: u64) -> Duration
+pub(crate) fn jitter(cooldown: Duration, word: u64) -> Duration
     ensures { as_nanos result ≡ jitter_of (as_nanos cooldown) word }
 {
     let nanos = word as u128 % (cooldown.as_nanos() / 2 * 2 + 1);

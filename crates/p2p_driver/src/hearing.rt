@@ -1,14 +1,14 @@
 //! What becomes of a link when its peer is heard, and what is said then.
 
 ghost use Rattle.std.specs.Prelude.{◌≡◌, ◌≤◌, ◌+◌, ◌++◌, [], ◌∷◌};
-ghost use Rattle.std.specs.Prelude.{ℕ, Option, IfSome, is_some, option_map, length};
+ghost use Rattle.std.specs.Prelude.{ℕ, Option, IfSome, is_some, option_map};
 ghost use Rattle.std.specs.Prelude.{true, false, if◌then◌else◌};
 ghost use Rattle.std.specs.BTreeMap.{is_at};
 ghost use Rattle.std.specs.Duration.{as_nanos};
 ghost use Rattle.std.specs.Option.{IsSomeAnd};
 ghost use Rattle.p2p_discovery.specs.declared.discovery.Info.{Info};
 ghost use Rattle.p2p_tracker.specs.Calls.Call.{Connect};
-ghost use Rattle.p2p_driver.specs.Links.{link_of, needs, has_room_at, asking, saying};
+ghost use Rattle.p2p_driver.specs.Links.{link_of, count_of, needs, has_room_at, asking, saying};
 ghost use Rattle.p2p_driver.specs.Links.{is_to_ask, to_ask};
 ghost use Rattle.p2p_driver.specs.Frames.{owed_after};
 ghost use Rattle.p2p_driver.specs.Frames.Outcome.{Breaks, Greets, IsEarly, LacksChannel};
@@ -16,6 +16,7 @@ ghost use Rattle.p2p_driver.specs.Happenings.{asking_on, said_with};
 ghost use Rattle.p2p_driver.specs.Hearing.{Follows};
 ghost use Rattle.p2p_driver.specs.Questions.{asked_after, owed_with, IsNextQuestion};
 ghost use Rattle.p2p_driver.specs.Steps.{IsBlocked, Makes, MakesFor, MayConnect};
+ghost use Rattle.p2p_driver.specs.declared.links.Direction.{Direction};
 ghost use Rattle.p2p_driver.specs.declared.links.Phase.TheVariants as Phase;
 ghost use Rattle.p2p_driver.specs.declared.questions.Question.{Question};
 
@@ -99,7 +100,7 @@ pub(crate) fn say<C: PublicKey>(links: &mut Links<C>, pace: &Pace, peer: &C, now
     ensures room { result ≡ true →
         has_room_at pace.now.queue (link_of C.cmp links.old peer.now) ≡ true }
     ensures unchanged { result ≡ false → links.new ≡ links.old }
-    ensures count { length links.new ≡ length links.old }
+    ensures counts { (way : Direction) → count_of way links.new ≡ count_of way links.old }
     ensures needs { needs links.new ≡ needs links.old }
     ensures to_ask { (tick t : ℕ) → to_ask tick t links.new ≡ to_ask tick t links.old }
 {
@@ -123,7 +124,7 @@ fn say_question<C: PublicKey>(
     ensures links { (q : C) → link_of C.cmp links.new q ≡ (if is_at (C.cmp peer.now) q
         then option_map (saying (said_with now result)) (link_of C.cmp links.old q)
         else link_of C.cmp links.old q) }
-    ensures count { length links.new ≡ length links.old }
+    ensures counts { (way : Direction) → count_of way links.new ≡ count_of way links.old }
     ensures needs { needs links.new ≡ needs links.old }
     ensures to_ask { (tick t : ℕ) → to_ask tick t links.new ≡ to_ask tick t links.old }
 {
@@ -135,9 +136,9 @@ fn say_question<C: PublicKey>(
     }
 }
 
-// The peer of a link has greeted, and its info is applied: it is connected, told to be up, and
-// asked, if the queue of its link has room, and memory suffices. There is room for three actions
-// more than links need.
+// The peer of a link has greeted, and its info is applied: it is connected, as one that was dialled
+// or not, told to be up, and asked, if the queue of its link has room, and memory suffices. There
+// is room for three actions more than links need.
 pub(crate) fn greet<C: PublicKey>(
     node: &mut Node<C>,
     links: &mut Links<C>,
@@ -147,23 +148,24 @@ pub(crate) fn greet<C: PublicKey>(
     owed: usize,
     peer: &C,
     number: u64,
+    dialer: bool,
     now: Duration,
 )
     requires may { MayConnect C.cmp peer.now node.old }
     requires asked { IsSomeAnd (link_of C.cmp links.old peer.now) (λ held. held.asked ≡ asked) }
     requires fit { needs links.old + 3 ≤ actions.old.room }
-    ensures made { Makes C.cmp (Connect peer.now false ∷ []) node.old node.new }
+    ensures made { Makes C.cmp (Connect peer.now dialer ∷ []) node.old node.new }
     ensures greets { (info : Info C C.Signature) → (question : Option Question)
         × IfSome question (λ question. IsNextQuestion C.cmp ⟦<C as Frames>⟧.wire
         pace.now.refresh asked question node.new)
         × IfSome question (λ question.
         has_room_at pace.now.queue (link_of C.cmp links.old peer.now) ≡ true)
         × Follows C.cmp number peer.now now
-        (owed_after Phase.Greeting (Greets info question) pace.now.owed owed)
-        (Greets info question) links.old links.new actions.old.items actions.new.items }
+        (owed_after Phase.Greeting (Greets dialer info question) pace.now.owed owed)
+        (Greets dialer info question) links.old links.new actions.old.items actions.new.items }
     ensures room { needs links.new + actions.old.room ≤ actions.new.room + needs links.old + 3 }
 {
-    steps::connect(node, peer);
+    steps::connect(node, peer, dialer);
     actions.push(Action::Told(Event::Up(Link(number), *peer)));
     match say_question(node, links, pace, &asked, peer, now) {
         Some(question) => {
@@ -206,7 +208,7 @@ pub(crate) fn ask<C: PublicKey>(
         (asked_after now question asked) (saying (said_with now question) h))
         (link_of C.cmp links.old q) else link_of C.cmp links.old q))
         × (actions.new.items ≡ actions.old.items ++ asking_on number question) }
-    ensures count { length links.new ≡ length links.old }
+    ensures counts { (way : Direction) → count_of way links.new ≡ count_of way links.old }
     ensures needs { needs links.new ≡ needs links.old }
     ensures room { actions.new.room + 1 ≡ actions.old.room }
     ensures fewer { (tick : ℕ) → let t = as_nanos now in

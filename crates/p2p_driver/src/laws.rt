@@ -2,7 +2,7 @@
 
 ghost use Rattle.std.specs.Prelude.{ℕ, ◌≡◌, ◌≤◌, ◌&&◌, not, if◌then◌else◌, true, List, ◌∷◌, ◌++◌};
 ghost use Rattle.std.specs.Prelude.{◌<◌, ◌+◌, ◌-◌, ◌*◌, false, length, map, Some, None, is_some};
-ghost use Rattle.std.specs.Prelude.{Option, option_map, drop, max};
+ghost use Rattle.std.specs.Prelude.{Option, [], option_map, drop, max};
 ghost use Rattle.std.specs.Duration.{as_nanos};
 ghost use Rattle.std.specs.Int.NonZero.{non_zero_u32_get};
 ghost use Rattle.std.specs.List.{Contains, count_by};
@@ -18,14 +18,15 @@ ghost use Rattle.p2p_directory.specs.Nodes.{NodeStandsAt};
 ghost use Rattle.p2p_directory.specs.Run.{world_after};
 ghost use Rattle.p2p_driver.specs.Arrivals.{is_of};
 ghost use Rattle.p2p_driver.specs.Happenings.{Happening, calls_of, latest_at, link_count};
+ghost use Rattle.p2p_driver.specs.Happenings.{inbound_count, outbound_count, dial_count};
 ghost use Rattle.p2p_driver.specs.Happenings.{next_at, stream_at, said, says_by, taken};
 ghost use Rattle.p2p_driver.specs.Happenings.{answered_in};
 ghost use Rattle.p2p_driver.specs.Happenings.Happening.{Arrived, SetCame, Claimed, Refused, Heard};
 ghost use Rattle.p2p_driver.specs.Frames.{Cause, Outcome};
-ghost use Rattle.p2p_driver.specs.Links.{link_of, closed};
+ghost use Rattle.p2p_driver.specs.Links.{link_of, closed, is_dialing};
 ghost use Rattle.p2p_driver.specs.Laws.{Begins, closes, is_served, is_set, HasGreeted};
 ghost use Rattle.p2p_driver.specs.Laws.{has_greeted, cut_by, Blames, bare, asked_on, lists_on};
-ghost use Rattle.p2p_driver.specs.Laws.{is_head, said_since, written_since};
+ghost use Rattle.p2p_driver.specs.Laws.{is_head, first_on, said_since, written_since};
 ghost use Rattle.p2p_driver.specs.Reading.{rate_at, frames_read};
 ghost use Rattle.p2p_driver.specs.Drivers.{DriverView, Base, DriverStandsAt, AreRight, link};
 ghost use Rattle.p2p_driver.specs.Drivers.{IsRight, may_come, no_proof};
@@ -77,8 +78,8 @@ pub fn links_are_reservations<C: PublicKey>()
 
 /// By a law of drivers, each link has a number of its own, whatever it did that it might do.
 ///
-/// - No stream whose key isn't proved has the number of a link, and it is lower than that of the
-///   next stream.
+/// - No stream that came in and whose key isn't proved has the number of a link, and it is lower
+///   than that of the next stream or dial.
 /// - Two links with one number are of one peer.
 pub fn one_link<C: PublicKey>()
     ensures proved { (b : Base C C.Signature) (h : List (Happening C C.Signature)) →
@@ -100,7 +101,7 @@ pub fn one_link<C: PublicKey>()
 /// - If it wasn't closing before, its close is said.
 ///
 /// It closes at once the link of a peer that the application blocks or parts from, that broke a
-/// rule, or that sent an info of the future.
+/// rule, or that sent an info of the future, and a dial whose stream is proved to be another's.
 ///
 /// - If that peer has a link, it is closing then.
 /// - If it wasn't closing before, its close is said, for that reason.
@@ -136,14 +137,19 @@ pub fn closed_at_once<C: PublicKey>()
 
 /// By a law of drivers, no more is kept than the settings say, whatever it did that it might do.
 ///
-/// - There are at most `links` links, and at most `inbound`, since all are inbound.
+/// - There are at most `links` links. At most `inbound` are inbound, and at most `outbound` are
+///   outbound, of which at most `dials` are dials whose streams aren't proved.
 /// - A driver keeps as many links as there are by what it did.
 /// - It keeps at most `arrivals` streams that aren't proved, at most `by_address` of each origin.
 pub fn budget<C: PublicKey>()
-    ensures links { (b : Base C C.Signature) (h : List (Happening C C.Signature)) →
-        AreRight b h → link_count h ≤ b.pace.links }
+    ensures links { (b : Base C C.Signature) → b.made.directory.cmp ≡ C.cmp →
+        (h : List (Happening C C.Signature)) → AreRight b h → link_count h ≤ b.pace.links }
     ensures inbound { (b : Base C C.Signature) (h : List (Happening C C.Signature)) →
-        AreRight b h → link_count h ≤ b.pace.inbound }
+        AreRight b h → inbound_count h ≤ b.pace.inbound }
+    ensures outbound { (b : Base C C.Signature) → b.made.directory.cmp ≡ C.cmp →
+        (h : List (Happening C C.Signature)) → AreRight b h → outbound_count h ≤ b.pace.outbound }
+    ensures dials { (b : Base C C.Signature) (h : List (Happening C C.Signature)) →
+        AreRight b h → dial_count h ≤ b.pace.dials }
     ensures kept { (b : Base C C.Signature) (h : List (Happening C C.Signature))
         (v : DriverView C C.Signature) → DriverStandsAt b h v → length v.links ≡ link_count h }
     ensures arrivals { (b : Base C C.Signature) (h : List (Happening C C.Signature))
@@ -281,8 +287,9 @@ pub fn few_signatures<C: PublicKey>()
 /// that it might do.
 ///
 /// - There are at most `queue` of them, or one, if `queue` is 0: the own greeting.
-/// - They are the frames that were said on the link, the own greeting first, but for as many of the
-///   first as were written.
+/// - They are the frames that were said on the link, but for as many of the first as were written.
+///   The own greeting is the first: on an inbound link it is said as that begins, on a dial as its
+///   stream is proved, before which nothing is said.
 /// - No more were written than were said.
 pub fn few_unwritten<C: PublicKey>()
     ensures bound { (b : Base C C.Signature) → b.made.directory.cmp ≡ C.cmp →
@@ -291,11 +298,15 @@ pub fn few_unwritten<C: PublicKey>()
     ensures are { (b : Base C C.Signature) → b.made.directory.cmp ≡ C.cmp →
         (h : List (Happening C C.Signature)) → AreRight b h → (p : C) (held : Held) →
         link b p h ≡ Some held → let s = b.made.directory in
-        held.unwritten ≡ drop (written_since s p h) (held.since ∷ said_since s p h) }
+        held.unwritten ≡ drop (written_since s p h) (first_on held ++ said_since s p h) }
     ensures within { (b : Base C C.Signature) → b.made.directory.cmp ≡ C.cmp →
         (h : List (Happening C C.Signature)) → AreRight b h → (p : C) (held : Held) →
         link b p h ≡ Some held → let s = b.made.directory in
-        written_since s p h ≤ length (held.since ∷ said_since s p h) }
+        written_since s p h ≤ length (first_on held ++ said_since s p h) }
+    ensures proved_first { (b : Base C C.Signature) → b.made.directory.cmp ≡ C.cmp →
+        (h : List (Happening C C.Signature)) → AreRight b h → (p : C) (held : Held) →
+        link b p h ≡ Some held → is_dialing held ≡ true →
+        said_since b.made.directory p h ≡ [] }
 {}
 
 /// By a law of drivers, little is said at a time.

@@ -20,6 +20,7 @@ pub mod link;
 pub mod links;
 pub mod looked;
 pub mod meters;
+pub mod next_dial;
 pub mod origin;
 pub mod pace;
 mod questions;

@@ -11,14 +11,17 @@ ghost use Rattle.std.specs.BTreeMap.{is_at, get, insert_entry};
 ghost use Rattle.p2p_driver.specs.Links.{link_of, need_at, needs, link_with, one_if_greeting};
 ghost use Rattle.p2p_driver.specs.Links.{opened, hearing, asking, allowing, saying, writing};
 ghost use Rattle.p2p_driver.specs.Links.{closed, changed, has_room, has_room_at};
-ghost use Rattle.p2p_driver.specs.Links.{is_ungreeted, is_slow, is_timed};
+ghost use Rattle.p2p_driver.specs.Links.{is_ungreeted, is_slow, is_timed, greets_in};
+ghost use Rattle.p2p_driver.specs.Links.{begun, dial_with, reached, is_way, is_dialing, is_dialer};
+ghost use Rattle.p2p_driver.specs.Links.{count_of};
 ghost use Rattle.p2p_driver.specs.Links.{is_open, ask_at, is_to_ask, to_ask, next_of};
 ghost use Rattle.p2p_driver.specs.Links.{is_unexpected, hear_by, due, is_late};
 ghost use Rattle.p2p_driver.specs.Links.{AreNumbered, AreAlike, IsLeastDue};
 ghost use Rattle.p2p_driver.specs.declared.links.Held.{Held};
 
-use crate::deadlines::{first_late, first_to_ask, first_to_ask_from, next_due};
+use crate::deadlines::{count_of, first_late, first_to_ask, first_to_ask_from, next_due};
 use crate::looked::Looked;
+use crate::pace::Pace;
 use crate::rate::after;
 use crate::unwritten::Unwritten;
 use bytes::Bytes;
@@ -36,6 +39,17 @@ pub enum Phase {
     Open,
     /// It was closed: its stream ends.
     Closing,
+}
+
+/// How a link came about.
+#[derive(Clone, Copy, Debug, PartialEq, Eq)]
+pub enum Direction {
+    /// A stream came in, and was proved.
+    Inbound,
+    /// A dial is under way: its stream isn't proved.
+    Dialing,
+    /// A dial, whose stream was proved.
+    Outbound,
 }
 
 /// A frame that waits until it is told which signatures in it are valid.
@@ -68,9 +82,11 @@ pub struct Asked {
 pub struct Held {
     /// Its number, which no other link has.
     pub number: u64,
+    /// How it came about.
+    pub direction: Direction,
     /// How far it is.
     pub phase: Phase,
-    /// When its peer's key was proved, a steady time.
+    /// When its peer's key was proved, a steady time, or for a dial under way, when it began.
     pub since: Duration,
     /// When its peer was heard last, a steady time: at first, when its key was proved.
     pub heard: Duration,
@@ -82,7 +98,8 @@ pub struct Held {
     pub asked: Asked,
     /// The frame that may be handed in next, if one may.
     pub looked: Option<Looked>,
-    /// The frames that were said on it and aren't written: at first, the own greeting.
+    /// The frames that were said on it and aren't written: first, once its peer's key is proved,
+    /// the own greeting.
     pub unwritten: Unwritten,
 }
 
@@ -154,6 +171,24 @@ impl Held {
         self.looked = None;
     }
 
+    // The stream of a dial is proved, and the own greeting said, if memory suffices. False, and
+    // nothing changes, if it doesn't.
+    fn reach(&mut self, now: Duration) -> bool
+        ensures reached { result ≡ true → self.new ≡ saying (Some now) (reached now self.old) }
+        ensures unchanged { result ≡ false → self.new ≡ self.old }
+    {
+        if !self.say(now) {
+            return false;
+        }
+        if self.direction == Direction::Dialing {
+            self.direction = Direction::Outbound;
+        }
+        self.since = now;
+        self.heard = now;
+        self.waiting = None;
+        true
+    }
+
     // The link is closed.
     fn close(&mut self)
         ensures { self.new ≡ closed self.old }
@@ -198,6 +233,20 @@ impl Held {
         self.phase == Phase::Greeting && self.waiting.is_none()
     }
 
+    // Whether the link is a dial whose stream isn't proved.
+    pub(crate) fn is_dialing(&self) -> bool
+        ensures { result ≡ is_dialing self.now }
+    {
+        self.direction == Direction::Dialing
+    }
+
+    // Whether the link is a dial whose stream was proved.
+    pub(crate) fn is_dialer(&self) -> bool
+        ensures { result ≡ is_dialer self.now }
+    {
+        self.direction == Direction::Outbound
+    }
+
     // Whether the link isn't closed.
     pub(crate) fn is_timed(&self) -> bool
         ensures { result ≡ is_timed self.now.phase }
@@ -212,23 +261,36 @@ impl Held {
         self.is_ungreeted() || self.unwritten.is_since(self.heard)
     }
 
+    // By when the peer has to greet, or to be proved if it was dialled, in nanoseconds.
+    fn greet_by(&self, pace: &Pace) -> u128
+        ensures { result ≡ as_nanos self.now.since + greets_in pace.now self.now.direction }
+    {
+        match self.direction {
+            Direction::Dialing => {
+                let shortest = Duration::from_nanos(1);
+                after(self.since, pace.handshake).max(after(self.since, shortest))
+            }
+            _ => after(self.since, pace.greeting),
+        }
+    }
+
     // By when the peer has to be heard, in nanoseconds.
-    fn hear_by(&self, greeting: Duration, silence: Duration) -> u128
-        ensures { result ≡ hear_by (as_nanos greeting) (as_nanos silence) self.now }
+    fn hear_by(&self, pace: &Pace) -> u128
+        ensures { result ≡ hear_by pace.now self.now }
     {
         if self.is_ungreeted() {
-            after(self.since, greeting)
+            self.greet_by(pace)
         } else {
-            after(self.heard, silence)
+            after(self.heard, pace.silence)
         }
     }
 
     // By when the peer has to be heard, or a frame to be written, in nanoseconds.
-    fn due(&self, greeting: Duration, silence: Duration) -> u128
-        ensures { result ≡ due (as_nanos greeting) (as_nanos silence) self.now }
+    fn due(&self, pace: &Pace) -> u128
+        ensures { result ≡ due pace.now self.now }
     {
-        let hear_by = self.hear_by(greeting, silence);
-        match self.unwritten.write_by(silence) {
+        let hear_by = self.hear_by(pace);
+        match self.unwritten.write_by(pace.silence) {
             Some(write_by) => write_by.min(hear_by),
             None => hear_by,
         }
@@ -257,24 +319,22 @@ impl Held {
     }
 
     // When something is due of the link next, in nanoseconds.
-    pub(crate) fn next(&self, greeting: Duration, silence: Duration, tick: Duration) -> u128
-        ensures { result
-            ≡ next_of (as_nanos greeting) (as_nanos silence) (as_nanos tick) self.now }
+    pub(crate) fn next(&self, pace: &Pace) -> u128
+        ensures { result ≡ next_of pace.now self.now }
     {
-        let due = self.due(greeting, silence);
+        let due = self.due(pace);
         if self.is_open() {
-            due.min(self.ask_at(tick))
+            due.min(self.ask_at(pace.tick))
         } else {
             due
         }
     }
 
     // Whether the link is late.
-    pub(crate) fn is_late(&self, greeting: Duration, silence: Duration, now: Duration) -> bool
-        ensures { result
-            ≡ is_late (as_nanos greeting) (as_nanos silence) (as_nanos now) self.now }
+    pub(crate) fn is_late(&self, pace: &Pace, now: Duration) -> bool
+        ensures { result ≡ is_late pace.now (as_nanos now) self.now }
     {
-        self.is_timed() && self.due(greeting, silence) <= now.as_nanos()
+        self.is_timed() && self.due(pace) <= now.as_nanos()
     }
 }
 
@@ -353,6 +413,17 @@ impl<C: Ord + Copy> Links<C> {
         self.of_peers.len()
     }
 
+    /// How many links came about so. It doesn't allocate.
+    ///
+    /// # Cost
+    ///
+    /// One pass over the links.
+    pub fn count_of(&self, direction: Direction) -> usize
+        ensures { result ≡ count_of direction self.now }
+    {
+        count_of(&self.of_peers, direction)
+    }
+
     /// Does nothing. By a law of links, a peer has one link, by whichever of equal keys it is asked
     /// for, and no two links have one number.
     pub fn agrees(&self)
@@ -366,8 +437,9 @@ impl<C: Ord + Copy> Links<C> {
         let _count = self.of_peers.len();
     }
 
-    /// Keeps a link of the peer, whose key was proved at the steady time `since`, and which hasn't
-    /// greeted. The own greeting is said on it then. All other links stay.
+    /// Keeps a link of the peer, of a stream that came in and was proved at the steady time
+    /// `since`. The peer hasn't greeted. The own greeting is said on the link then. All other links
+    /// stay.
     ///
     /// # Conditions
     ///
@@ -390,26 +462,65 @@ impl<C: Ord + Copy> Links<C> {
         ensures entries { OnOk result (self.new ≡
             insert_entry C.cmp self.old peer (link_with number since)) }
         ensures count { OnOk result (length self.new ≡ length self.old + 1) }
+        ensures counts { OnOk result ((way : Direction) → count_of way self.new
+            ≡ count_of way self.old + (if is_way way Direction.Inbound then 1 else 0)) }
         ensures needs { OnOk result (needs self.new ≡ needs self.old + 1) }
         ensures err { OnErr result (self.new ≡ self.old) }
     {
         let unwritten = Unwritten::new(self.alloc, since)?;
+        self.keep(peer, begun(number, Direction::Inbound, since, unwritten))
+    }
+
+    /// Keeps a link of the peer, whose dial began at the steady time `since`: its stream isn't
+    /// proved. Nothing is said on it. All other links stay.
+    ///
+    /// # Conditions
+    ///
+    /// The peer has no link, and no link has the number.
+    ///
+    /// # Errors
+    ///
+    /// `AllocError` if an allocation fails. Nothing changes then.
+    ///
+    /// # Cost
+    ///
+    /// Two searches among the links.
+    pub fn dial(&mut self, peer: C, number: u64, since: Duration) -> Result<(), AllocError>
+        requires unlinked { link_of C.cmp self.old peer ≡ None }
+        requires unused { (q : C) (held : Held) → link_of C.cmp self.old q ≡ Some held →
+            held.number ≡ number → ⊥ }
+        ensures ok { OnOk result ((q : C) → link_of C.cmp self.new q ≡
+            (if is_at (C.cmp peer) q then Some (dial_with number since)
+            else link_of C.cmp self.old q)) }
+        ensures entries { OnOk result (self.new ≡
+            insert_entry C.cmp self.old peer (dial_with number since)) }
+        ensures count { OnOk result (length self.new ≡ length self.old + 1) }
+        ensures counts { OnOk result ((way : Direction) → count_of way self.new
+            ≡ count_of way self.old + (if is_way way Direction.Dialing then 1 else 0)) }
+        ensures needs { OnOk result (needs self.new ≡ needs self.old + 1) }
+        ensures err { OnErr result (self.new ≡ self.old) }
+    {
+        let unwritten = Unwritten::none(self.alloc);
+        self.keep(peer, begun(number, Direction::Dialing, since, unwritten))
+    }
+
+    // Keeps a link of the peer that begins so.
+    fn keep(&mut self, peer: C, held: Held) -> Result<(), AllocError>
+        requires unlinked { link_of C.cmp self.old peer ≡ None }
+        requires unused { (q : C) (other : Held) → link_of C.cmp self.old q ≡ Some other →
+            other.number ≡ held.number → ⊥ }
+        requires begins { held.phase ≡ Phase.Greeting }
+        ensures ok { OnOk result ((q : C) → link_of C.cmp self.new q ≡
+            (if is_at (C.cmp peer) q then Some held else link_of C.cmp self.old q)) }
+        ensures entries { OnOk result (self.new ≡ insert_entry C.cmp self.old peer held) }
+        ensures count { OnOk result (length self.new ≡ length self.old + 1) }
+        ensures counts { OnOk result ((way : Direction) → count_of way self.new
+            ≡ count_of way self.old + (if is_way way held.direction then 1 else 0)) }
+        ensures needs { OnOk result (needs self.new ≡ needs self.old + 1) }
+        ensures err { OnErr result (self.new ≡ self.old) }
+    {
+        let number = held.number;
         insert(&mut self.peers, number, peer)?;
-        let held = Held {
-            number,
-            phase: Phase::Greeting,
-            since,
-            heard: since,
-            owed: 0,
-            waiting: None,
-            asked: Asked {
-                at: since,
-                index: None,
-                rounds: 0,
-            },
-            looked: None,
-            unwritten,
-        };
         if let Err(failed) = insert(&mut self.of_peers, peer, held) {
             let _peer = self.peers.remove(&number);
             return Err(failed);
@@ -428,7 +539,7 @@ impl<C: Ord + Copy> Links<C> {
         ensures links { (q : C) → link_of C.cmp self.new q ≡ (if is_at (C.cmp peer.now) q
             then option_map (opened now owed asked) (link_of C.cmp self.old q)
             else link_of C.cmp self.old q) }
-        ensures count { length self.new ≡ length self.old }
+        ensures counts { (way : Direction) → count_of way self.new ≡ count_of way self.old }
         ensures needs { needs self.new ≡
             needs self.old + one_if_greeting (link_of C.cmp self.old peer.now) }
     {
@@ -445,7 +556,7 @@ impl<C: Ord + Copy> Links<C> {
         ensures links { (q : C) → link_of C.cmp self.new q ≡ (if is_at (C.cmp peer.now) q
             then option_map (asking owed asked) (link_of C.cmp self.old q)
             else link_of C.cmp self.old q) }
-        ensures count { length self.new ≡ length self.old }
+        ensures counts { (way : Direction) → count_of way self.new ≡ count_of way self.old }
         ensures needs { needs self.new ≡ needs self.old }
         ensures fewer { (tick now : ℕ) → now < as_nanos asked.at + max tick 1 →
             IsSomeAnd (link_of C.cmp self.old peer.now) (λ h. is_to_ask tick now h ≡ true) →
@@ -464,7 +575,7 @@ impl<C: Ord + Copy> Links<C> {
         ensures links { (q : C) → link_of C.cmp self.new q ≡ (if is_at (C.cmp peer.now) q
             then option_map (hearing now owed waiting) (link_of C.cmp self.old q)
             else link_of C.cmp self.old q) }
-        ensures count { length self.new ≡ length self.old }
+        ensures counts { (way : Direction) → count_of way self.new ≡ count_of way self.old }
         ensures needs { needs self.new ≡ needs self.old }
     {
         apply(&mut self.of_peers, peer, Change::Hears(now, owed, waiting));
@@ -480,7 +591,7 @@ impl<C: Ord + Copy> Links<C> {
         ensures links { (q : C) → link_of C.cmp self.new q ≡ (if is_at (C.cmp peer.now) q
             then option_map (allowing looked) (link_of C.cmp self.old q)
             else link_of C.cmp self.old q) }
-        ensures count { length self.new ≡ length self.old }
+        ensures counts { (way : Direction) → count_of way self.new ≡ count_of way self.old }
         ensures needs { needs self.new ≡ needs self.old }
     {
         apply(&mut self.of_peers, peer, Change::Looks(looked));
@@ -514,11 +625,35 @@ impl<C: Ord + Copy> Links<C> {
             else link_of C.cmp self.old q) }
         ensures linked { result ≡ true → is_some (link_of C.cmp self.old peer.now) ≡ true }
         ensures unchanged { result ≡ false → self.new ≡ self.old }
-        ensures count { length self.new ≡ length self.old }
+        ensures counts { (way : Direction) → count_of way self.new ≡ count_of way self.old }
         ensures needs { needs self.new ≡ needs self.old }
         ensures to_ask { (tick t : ℕ) → to_ask tick t self.new ≡ to_ask tick t self.old }
     {
         say(&mut self.of_peers, peer, now)
+    }
+
+    /// Notes that the stream of a dial of the peer is proved at this time, if the peer has a link:
+    /// it is outbound then, and the own greeting is said on it. All other links stay. It returns
+    /// whether memory suffices, and the peer has a link. If not, nothing changes.
+    ///
+    /// # Cost
+    ///
+    /// One search among the links. The times of the frames that aren't written may be moved once.
+    pub fn reach(&mut self, peer: &C, now: Duration) -> bool
+        ensures links { result ≡ true → (q : C) → link_of C.cmp self.new q ≡
+            (if is_at (C.cmp peer.now) q
+            then option_map (λ h. saying (Some now) (reached now h)) (link_of C.cmp self.old q)
+            else link_of C.cmp self.old q) }
+        ensures linked { result ≡ true → is_some (link_of C.cmp self.old peer.now) ≡ true }
+        ensures unchanged { result ≡ false → self.new ≡ self.old }
+        ensures counts { result ≡ true →
+            IsSomeAnd (link_of C.cmp self.old peer.now) (λ h. is_dialing h ≡ true) →
+            (way : Direction) →
+            count_of way self.new + (if is_way way Direction.Dialing then 1 else 0)
+            ≡ count_of way self.old + (if is_way way Direction.Outbound then 1 else 0) }
+        ensures needs { needs self.new ≡ needs self.old }
+    {
+        reach(&mut self.of_peers, peer, now)
     }
 
     /// Notes that the oldest frame that was said on the peer's link is written, if it has a link,
@@ -531,7 +666,7 @@ impl<C: Ord + Copy> Links<C> {
         ensures links { (q : C) → link_of C.cmp self.new q ≡ (if is_at (C.cmp peer.now) q
             then option_map writing (link_of C.cmp self.old q)
             else link_of C.cmp self.old q) }
-        ensures count { length self.new ≡ length self.old }
+        ensures counts { (way : Direction) → count_of way self.new ≡ count_of way self.old }
         ensures needs { needs self.new ≡ needs self.old }
     {
         apply(&mut self.of_peers, peer, Change::Writes);
@@ -547,7 +682,7 @@ impl<C: Ord + Copy> Links<C> {
         ensures links { (q : C) → link_of C.cmp self.new q ≡
             (if is_at (C.cmp peer.now) q then option_map closed (link_of C.cmp self.old q)
             else link_of C.cmp self.old q) }
-        ensures count { length self.new ≡ length self.old }
+        ensures counts { (way : Direction) → count_of way self.new ≡ count_of way self.old }
         ensures needs { needs self.new + need_at (link_of C.cmp self.old peer.now) ≡
             needs self.old }
     {
@@ -566,6 +701,9 @@ impl<C: Ord + Copy> Links<C> {
             (if is_at (C.cmp peer.now) q then None else link_of C.cmp self.old q) }
         ensures entries { self.new ≡ remove_entry (is_at (C.cmp peer.now)) self.old }
         ensures count { length self.new + (if is_some result then 1 else 0) ≡ length self.old }
+        ensures counts { IfSome result (λ held. (way : Direction) →
+            count_of way self.new + (if is_way way held.direction then 1 else 0)
+            ≡ count_of way self.old) }
         ensures needs { needs self.new + need_at result ≡ needs self.old }
     {
         let Some(held) = self.of_peers.remove(peer) else {
@@ -577,26 +715,26 @@ impl<C: Ord + Copy> Links<C> {
 
     /// The first peer, in ascending order of the keys, whose link is late at the steady time `now`:
     /// it isn't closed, and before the peer has greeted, and while nothing of it waits, `greeting`
-    /// has passed since its key was proved, else `silence` since it was heard last. Or `silence`,
-    /// or a nanosecond if that is 0, has passed since the oldest frame was said on it that isn't
-    /// written. `None` if none is late. It doesn't allocate.
+    /// has passed since its key was proved, else `silence` since it was heard last. Of a dial whose
+    /// stream isn't proved, `handshake` has passed since it began, or a nanosecond if that is 0. Or
+    /// `silence`, or a nanosecond if that is 0, has passed since the oldest frame was said on it
+    /// that isn't written. `None` if none is late. It doesn't allocate.
     ///
     /// # Cost
     ///
     /// One pass over the links.
-    pub fn late(&self, greeting: Duration, silence: Duration, now: Duration) -> Option<C>
+    pub fn late(&self, pace: &Pace, now: Duration) -> Option<C>
         ensures late { IfSome result (λ peer. IsSomeAnd (link_of C.cmp self.now peer)
-            (λ held. is_late (as_nanos greeting) (as_nanos silence) (as_nanos now) held ≡ true)) }
+            (λ held. is_late pace.now (as_nanos now) held ≡ true)) }
         ensures none { IfNone result ((q : C) (held : Held) →
             link_of C.cmp self.now q ≡ Some held →
-            is_late (as_nanos greeting) (as_nanos silence) (as_nanos now) held ≡ false) }
+            is_late pace.now (as_nanos now) held ≡ false) }
         ensures first { result ≡ option_map (λ e. e.0)
-            (find (λ e. is_late (as_nanos greeting) (as_nanos silence) (as_nanos now) e.1)
-            self.now) }
+            (find (λ e. is_late pace.now (as_nanos now) e.1) self.now) }
     {
         // For the proof: the contract of `len` says that the keys are in order.
         let _count = self.of_peers.len();
-        first_late(&self.of_peers, greeting, silence, now)
+        first_late(&self.of_peers, pace, now)
     }
 
     /// The first peer, in ascending order of the keys, that is to be asked at the steady time
@@ -650,13 +788,34 @@ impl<C: Ord + Copy> Links<C> {
     /// # Cost
     ///
     /// One pass over the links.
-    pub fn next_due(&self, greeting: Duration, silence: Duration, tick: Duration) -> Option<u128>
-        ensures { IsLeastDue C.cmp (next_of (as_nanos greeting) (as_nanos silence) (as_nanos tick))
-            self.now result }
+    pub fn next_due(&self, pace: &Pace) -> Option<u128>
+        ensures { IsLeastDue C.cmp (next_of pace.now) self.now result }
     {
         // For the proof: the contract of `len` says that the keys are in order.
         let _count = self.of_peers.len();
-        next_due(&self.of_peers, greeting, silence, tick)
+        next_due(&self.of_peers, pace)
+    }
+}
+
+// A link that begins: its peer hasn't greeted, and nothing was heard of it, or asked.
+fn begun(number: u64, direction: Direction, since: Duration, unwritten: Unwritten) -> Held
+    ensures { result ≡ begun direction number since unwritten }
+{
+    Held {
+        number,
+        direction,
+        phase: Phase::Greeting,
+        since,
+        heard: since,
+        owed: 0,
+        waiting: None,
+        asked: Asked {
+            at: since,
+            index: None,
+            rounds: 0,
+        },
+        looked: None,
+        unwritten,
     }
 }
 
@@ -705,6 +864,23 @@ fn say<C: Ord>(of_peers: &mut BTreeMap<C, Held>, peer: &C, now: Duration) -> boo
 {
     match of_peers.get_mut(peer) {
         Some(kept) => kept.say(now),
+        None => false,
+    }
+}
+
+// Notes that the stream of a dial of the peer is proved, if the peer's link is kept, and memory
+// suffices.
+fn reach<C: Ord>(of_peers: &mut BTreeMap<C, Held>, peer: &C, now: Duration) -> bool
+    ensures reached { result ≡ true → (held : Held) →
+        link_of C.cmp of_peers.old.entries peer.now ≡ Some held → of_peers.new.entries
+        ≡ set_value (is_at (C.cmp peer.now)) of_peers.old.entries
+        (saying (Some now) (reached now held)) }
+    ensures linked { result ≡ true →
+        is_some (link_of C.cmp of_peers.old.entries peer.now) ≡ true }
+    ensures unchanged { result ≡ false → of_peers.new.entries ≡ of_peers.old.entries }
+{
+    match of_peers.get_mut(peer) {
+        Some(kept) => kept.reach(now),
         None => false,
     }
 }

@@ -1,19 +1,25 @@
 //! The calls of a node that a driver makes, by what they make of it.
 
-ghost use Rattle.std.specs.Prelude.{◌≡◌, [], ◌∷◌, true, false, Some, None, IfSome};
+ghost use Rattle.std.specs.Prelude.{◌≡◌, [], ◌∷◌, true, false, Some, None, IfSome, IfOk, OnErr};
+ghost use Rattle.std.specs.Prelude.{option_map};
 ghost use Rattle.std.specs.Duration.{as_nanos};
-ghost use Rattle.p2p_tracker.specs.Calls.Call.{Listen, Release, Track, UnblockExpired};
+ghost use Rattle.p2p_tracker.specs.Calls.Call.{Dial, Listen, Release, Track, UnblockExpired};
 ghost use Rattle.p2p_tracker.specs.Calls.Call.{ForgetCooled, Block, Update, Connect};
 ghost use Rattle.p2p_directory.specs.Nodes.{IsSame};
 ghost use Rattle.p2p_driver.specs.Steps.{Makes, MayListen, IsBusy, IsTaken, TearsDown};
 ghost use Rattle.p2p_driver.specs.Steps.{IsBlocked, MayBlock, MayConnect};
+ghost use Rattle.p2p_driver.specs.Steps.{IsGranted, AreDialable, StaysQuiet, MayBeDialled};
+ghost use Rattle.p2p_driver.specs.Steps.{IsAddress, is_before};
 
 use p2p_directory::node::Node;
 use p2p_directory::run::{Command, Reply};
 use p2p_discovery::codec::PublicKey;
 use p2p_discovery::discovery::Info;
 use p2p_discovery::sets::OrderedSet;
+use p2p_discovery::types::Ingress;
 use p2p_tracker::directory::TrackedPeers;
+use p2p_tracker::record::Dialable;
+use std::alloc::AllocError;
 use std::time::Duration;
 
 // Reserves a peer that may come. False if an allocation fails.
@@ -31,6 +37,48 @@ pub(crate) fn listen<C: PublicKey>(
     // For the proof: the node stands somewhere.
     node.stands();
     matches!(node.listen(peer, now, draw).granted(), Some(true))
+}
+
+// Reserves a peer for a dial that is granted. False if an allocation fails.
+pub(crate) fn dial<C: PublicKey>(
+    node: &mut Node<C>,
+    peer: &C,
+    now: Duration,
+    draw: Duration,
+) -> bool
+    requires { IsGranted C.cmp peer.now (as_nanos now) (as_nanos draw) node.old }
+    ensures made { result ≡ true → Makes C.cmp
+        (Dial peer.now (as_nanos now) (as_nanos draw) ∷ []) node.old node.new }
+    ensures none { result ≡ false → IsSame node.old node.new }
+{
+    // For the proof: the node stands somewhere.
+    node.stands();
+    matches!(node.dial(peer, now, draw).granted(), Some(true))
+}
+
+// Who may be dialled now, and when to ask again if nobody may.
+pub(crate) fn dialable<C: PublicKey>(
+    node: &Node<C>,
+    now: Duration,
+) -> Result<Dialable<C>, AllocError>
+    ensures dialable { IfOk result (λ answer. AreDialable C.cmp (as_nanos now)
+        answer.peers.items (option_map as_nanos answer.next_query_at) node.now) }
+    ensures quiet { IfOk result (λ answer. answer.peers.items ≡ [] → StaysQuiet C.cmp
+        (as_nanos now) (option_map as_nanos answer.next_query_at) node.now) }
+    ensures later { IfOk result (λ answer.
+        is_before (as_nanos now) (option_map as_nanos answer.next_query_at) ≡ true) }
+    ensures err { OnErr result (MayBeDialled C.cmp (as_nanos now) node.now) }
+{
+    // For the proof: the node stands somewhere.
+    node.stands();
+    node.directory().dialable(now)
+}
+
+// The address of a peer, or `None` if there is none, or an allocation fails.
+pub(crate) fn ingress<C: PublicKey>(node: &Node<C>, peer: &C) -> Option<Ingress>
+    ensures { IfSome result (λ ingress. IsAddress C.cmp peer.now ingress node.now) }
+{
+    node.ingress(peer).ok()?
 }
 
 // Releases a peer that is reserved or connected.
@@ -80,12 +128,12 @@ pub(crate) fn update<C: PublicKey>(node: &mut Node<C>, infos: Vec<Info<C>>)
     spend(node.step(Command::UpdatePeers(infos)));
 }
 
-// Connects a peer that is reserved and was not dialled.
-pub(crate) fn connect<C: PublicKey>(node: &mut Node<C>, peer: &C)
+// Connects a peer that is reserved: whether it was dialled.
+pub(crate) fn connect<C: PublicKey>(node: &mut Node<C>, peer: &C, dialer: bool)
     requires { MayConnect C.cmp peer.now node.old }
-    ensures { Makes C.cmp (Connect peer.now false ∷ []) node.old node.new }
+    ensures { Makes C.cmp (Connect peer.now dialer ∷ []) node.old node.new }
 {
-    spend(node.connect(peer, false));
+    spend(node.connect(peer, dialer));
 }
 
 // Ends what ends by now: cooldowns and blocks.

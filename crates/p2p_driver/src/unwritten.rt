@@ -43,6 +43,15 @@ impl Unwritten {
         }
     }
 
+    /// No frame. It doesn't allocate.
+    pub fn none(alloc: Global) -> Self
+        ensures { result ≡ [] }
+    {
+        Unwritten {
+            times: VecDeque::new(alloc),
+        }
+    }
+
     /// How many frames there are. It doesn't allocate.
     pub fn len(&self) -> usize
         ensures { result ≡ length self.now }

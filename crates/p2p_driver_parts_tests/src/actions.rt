@@ -1,6 +1,7 @@
-//! Actions that wait: in which order they are taken, and how many frames are among them.
+//! Actions that wait: in which order they are taken, and how many frames and dials are among them.
 
 use bytes::Bytes;
+use p2p_discovery::types::{Ingress, IpAddr, SocketAddr};
 use p2p_driver::actions::{Action, Actions, Event, Why};
 use p2p_driver::link::Link;
 use std::alloc::{AllocError, Global};
@@ -10,6 +11,13 @@ use std::test::Fail;
 // The link of an action, or 0 if there is no action or none of a link.
 fn link_of(action: Option<Action<u64>>) -> u64 {
     match action {
+        Some(
+            Action::Dial {
+                link,
+                peer: _,
+                ingress: _,
+            },
+        ) => link.0,
         Some(Action::Close { link, why: _ }) => link.0,
         Some(Action::Told(Event::Up(link, _))) => link.0,
         _ => 0,
@@ -91,5 +99,42 @@ fn frames(alloc: Global) -> Result<[[usize; 3]; 4], AllocError> {
 fn frames_that_wait_are_counted_by_link(rt: HostRuntime) -> Result<(), Fail> {
     let found = frames(rt.alloc())?;
     assert!(rt; found == [[0, 0, 0], [2, 1, 0], [1, 1, 0], [1, 1, 0]]);
+    Ok(())
+}
+
+// A dial of peer 5 at 1.2.3.4:8005, on a link.
+fn dial(link: u64) -> Action<u64> {
+    let address = SocketAddr::new(IpAddr::V4([1, 2, 3, 4]), 8_005);
+    Action::Dial {
+        link: Link(link),
+        peer: 5,
+        ingress: Ingress::Socket(address),
+    }
+}
+
+// How many actions and frames wait on link 1, and actions on link 2, once both are dialled, and a
+// frame is sent on the first; and which link is taken first, and which of the actions wait then.
+type Dials = ((usize, usize, usize), u64, [usize; 2]);
+
+fn dials(alloc: Global) -> Result<Dials, AllocError> {
+    let mut actions = Actions::<u64>::new(alloc);
+    actions.reserve(3)?;
+    actions.push(dial(1));
+    actions.push(dial(2));
+    actions.push(frame(1));
+    let all = (
+        actions.count_of(Link(1)),
+        actions.sends_on(Link(1)),
+        actions.count_of(Link(2)),
+    );
+    let first = link_of(actions.pop());
+    let rest = [actions.count_of(Link(1)), actions.count_of(Link(2))];
+    Ok((all, first, rest))
+}
+
+#[test]
+fn a_dial_is_of_its_link_and_no_frame(rt: HostRuntime) -> Result<(), Fail> {
+    let found = dials(rt.alloc())?;
+    assert!(rt; found == ((2, 1, 1), 1, [1, 1]));
     Ok(())
 }

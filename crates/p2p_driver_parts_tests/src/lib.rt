@@ -9,6 +9,8 @@ mod answers;
 #[cfg(test)]
 mod arrivals;
 #[cfg(test)]
+mod dials;
+#[cfg(test)]
 mod heads;
 #[cfg(test)]
 mod links;

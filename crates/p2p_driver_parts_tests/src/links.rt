@@ -4,6 +4,7 @@
 use bytes::Bytes;
 use failing_alloc::{FailingAlloc, STEP};
 use p2p_driver::links::{Asked, Links, Phase, Waiting};
+use p2p_driver::pace::Pace;
 use std::alloc::{AllocError, Global};
 use std::process::Abort;
 use std::test::Fail;
@@ -158,21 +159,33 @@ fn what_is_heard_is_kept_until_a_link_is_closed(rt: HostRuntime) -> Result<(), F
     Ok(())
 }
 
-// Who is late at a time in milliseconds, if peers have 5 s to greet, and may be silent for 30 s.
-fn late(links: &Links<u64>, millis: u64) -> Option<u64> {
-    let now = Duration::from_millis(millis);
-    links.late(Duration::from_secs(5), Duration::from_secs(30), now)
+// An hour, in nanoseconds.
+const HOUR: u64 = 3_600_000_000_000;
+
+// The tested settings: peers have 5 s to greet, may be silent for 30 s, and are asked with a tick
+// of so many nanoseconds; dials have 3 s to be proved.
+fn pace(alloc: Global, tick: u64) -> Pace {
+    let mut pace = Pace::recommended(alloc, 4, Duration::from_secs(60)).pace;
+    pace.greeting = Duration::from_secs(5);
+    pace.silence = Duration::from_secs(30);
+    pace.tick = Duration::from_nanos(tick);
+    pace.handshake = Duration::from_secs(3);
+    pace
+}
+
+// Who is late at a time in milliseconds.
+fn late(alloc: Global, links: &Links<u64>, millis: u64) -> Option<u64> {
+    links.late(&pace(alloc, HOUR), Duration::from_millis(millis))
 }
 
 // When something is due next, in nanoseconds, with a tick of so many.
-fn next_due(links: &Links<u64>, tick: u64) -> Option<u128> {
-    let tick = Duration::from_nanos(tick);
-    links.next_due(Duration::from_secs(5), Duration::from_secs(30), tick)
+fn next_due(alloc: Global, links: &Links<u64>, tick: u64) -> Option<u128> {
+    links.next_due(&pace(alloc, tick))
 }
 
 // When the next is late, in milliseconds, where nobody is asked within an hour.
-fn next_late(links: &Links<u64>) -> Option<u128> {
-    next_due(links, 3_600_000_000_000).map(|nanos| nanos / 1_000_000)
+fn next_late(alloc: Global, links: &Links<u64>) -> Option<u128> {
+    next_due(alloc, links, HOUR).map(|nanos| nanos / 1_000_000)
 }
 
 // Who is late 4,999 ms and 5 s after the key of one of two peers was proved, which was the first;
@@ -183,13 +196,13 @@ fn lates(alloc: Global) -> Result<Lates, AllocError> {
     let mut links = Links::new(alloc);
     put(&mut links, 70, 1, 8_000)?;
     put(&mut links, 50, 2, 10_000)?;
-    let found = [late(&links, 12_999), late(&links, 13_000)];
-    let first = next_late(&links);
+    let found = [late(alloc, &links, 12_999), late(alloc, &links, 13_000)];
+    let first = next_late(alloc, &links);
     links.open(&70, Duration::from_secs(9), 1, asked(9_000, 1));
-    let second = next_late(&links);
+    let second = next_late(alloc, &links);
     links.close(&50);
     links.close(&70);
-    Ok((found, [first, second, next_late(&links)]))
+    Ok((found, [first, second, next_late(alloc, &links)]))
 }
 
 #[test]
@@ -209,16 +222,16 @@ fn silents(alloc: Global) -> Result<Silents, AllocError> {
     put(&mut links, 70, 1, 8_000)?;
     links.write(&70);
     links.open(&70, Duration::from_secs(9), 1, asked(9_000, 1));
-    let first = next_late(&links);
+    let first = next_late(alloc, &links);
     links.hear(&70, Duration::from_secs(20), 0, None);
-    let second = next_late(&links);
-    let found = [late(&links, 49_999), late(&links, 50_000)];
+    let second = next_late(alloc, &links);
+    let found = [late(alloc, &links, 49_999), late(alloc, &links, 50_000)];
     put(&mut links, 50, 2, 7_000)?;
     links.write(&50);
     links.hear(&50, Duration::from_secs(11), 0, waiting(alloc)?);
-    let third = next_late(&links);
+    let third = next_late(alloc, &links);
     links.hear(&50, Duration::from_secs(11), 0, None);
-    Ok((found, [first, second, third, next_late(&links)]))
+    Ok((found, [first, second, third, next_late(alloc, &links)]))
 }
 
 #[test]
@@ -288,17 +301,20 @@ fn unwritten(alloc: Global) -> Result<Unwritten, AllocError> {
     links.open(&70, Duration::from_secs(9), 1, asked(9_000, 1));
     links.hear(&70, Duration::from_secs(20), 0, None);
     links.say(&70, Duration::from_secs(25));
-    let found = [late(&links, 37_999), late(&links, 38_000)];
-    let first = next_late(&links);
+    let found = [late(alloc, &links, 37_999), late(alloc, &links, 38_000)];
+    let first = next_late(alloc, &links);
     links.write(&70);
-    let second = next_late(&links);
+    let second = next_late(alloc, &links);
     links.hear(&70, Duration::from_secs(40), 0, None);
-    let third = next_late(&links);
+    let third = next_late(alloc, &links);
     links.write(&70);
-    let fourth = next_late(&links);
+    let fourth = next_late(alloc, &links);
     links.say(&70, Duration::from_secs(45));
     links.close(&70);
-    Ok((found, [first, second, third, fourth, next_late(&links)]))
+    Ok((
+        found,
+        [first, second, third, fourth, next_late(alloc, &links)],
+    ))
 }
 
 #[test]
@@ -414,13 +430,13 @@ fn ticks(alloc: Global) -> Result<Due, AllocError> {
     put(&mut links, 50, 2, 0)?;
     let (tick, before, then) = (2_000_000_000u64, 3_999_999_999u64, 4_000_000_000u64);
     let asks = |links: &Links<u64>| [to_ask(links, tick, before), to_ask(links, tick, then)];
-    let first = (asks(&links), next_due(&links, tick));
+    let first = (asks(&links), next_due(alloc, &links, tick));
     links.open(&70, Duration::from_secs(9), 1, asked(2_000, 1));
-    let second = (asks(&links), next_due(&links, tick));
+    let second = (asks(&links), next_due(alloc, &links, tick));
     links.ask(&70, 2, asked(2_001, 2));
-    let third = (asks(&links), next_due(&links, tick));
+    let third = (asks(&links), next_due(alloc, &links, tick));
     links.open(&50, Duration::from_secs(9), 1, asked(1_000, 1));
-    let fourth = (asks(&links), next_due(&links, tick));
+    let fourth = (asks(&links), next_due(alloc, &links, tick));
     links.close(&50);
     links.close(&70);
     Ok([
@@ -428,7 +444,7 @@ fn ticks(alloc: Global) -> Result<Due, AllocError> {
         second,
         third,
         fourth,
-        (asks(&links), next_due(&links, tick)),
+        (asks(&links), next_due(alloc, &links, tick)),
     ])
 }
 
@@ -459,7 +475,7 @@ fn instant(alloc: Global) -> Result<Instant, AllocError> {
         to_ask(&links, 0, 3_000_000_001),
     ];
     let kept = links.get(&70).map(|held| (held.owed, held.asked));
-    Ok((found, next_due(&links, 0), kept))
+    Ok((found, next_due(alloc, &links, 0), kept))
 }
 
 #[test]

@@ -54,6 +54,21 @@ fn the_oldest_frame_is_written_first(rt: HostRuntime) -> Result<(), Fail> {
     Ok(())
 }
 
+// No frame; and with one of 6 s.
+fn empty(alloc: Global) -> Result<[Seen; 2], AllocError> {
+    let mut unwritten = Unwritten::none(alloc);
+    let none = seen(&unwritten);
+    unwritten.push(Duration::from_secs(6))?;
+    Ok([none, seen(&unwritten)])
+}
+
+#[test]
+fn at_first_no_frame_was_said(rt: HostRuntime) -> Result<(), Fail> {
+    let found = empty(rt.alloc())?;
+    assert!(rt; found == [(0, None, false), (1, Some(8_000_000_000), false)]);
+    Ok(())
+}
+
 // Whether a frame of 5 s was said a nanosecond before that or earlier, then or earlier, and a
 // nanosecond later or earlier.
 fn since(alloc: Global) -> Result<[bool; 3], AllocError> {

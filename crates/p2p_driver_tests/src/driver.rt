@@ -1,31 +1,21 @@
-//! Drivers: each answer and each action of streams, of their proofs, of links and of frames, by the
-//! rules.
+//! Drivers: each answer and each action of streams, of their proofs, of dials, of links, of sets
+//! and of time, by the rules.
 
 mod application;
-mod asking;
-mod breaches;
 mod clocks;
-mod dropped;
+mod dial_ends;
+mod dial_famine;
+mod dialed;
+mod dials;
 mod famine;
-mod frames;
-mod idle;
-mod judged;
-mod lasting;
 mod late;
 mod later;
-mod lengths;
 mod links;
-mod messages;
 mod queries;
 mod questions;
-mod reading;
 mod rooms;
 mod sets;
 mod slow;
-mod spent;
 mod streams;
 mod ticks;
 mod turns;
-mod unasked;
-mod unsaid;
-mod writing;

@@ -1,8 +1,7 @@
-//! Tests of a driver, with moments and numbers of the rules. They may use the crates of the library,
-//! and `lines`; no crate uses them.
+//! Tests of a driver, with moments and numbers of the rules: of streams, links, sets, questions,
+//! dials and timers. They may use the crates of the library, `lines`, `failing_alloc` and
+//! `p2p_driver_fixtures`; no crate uses them.
 #![tactic(auto)]
 
 #[cfg(test)]
 mod driver;
-#[cfg(test)]
-mod fixtures;

@@ -12,6 +12,7 @@ use p2p_directory::node::wire::Frames;
 use p2p_discovery::codec::PublicKey;
 use p2p_discovery::discovery::Info;
 use std::alloc::AllocError;
+use std::time::Duration;
 
 impl<C: PublicKey> Driver<C> {
     /// The application has infos that it verified, or that it stored after that: they are applied,
@@ -26,6 +27,7 @@ impl<C: PublicKey> Driver<C> {
             (Given infos.items) self.old self.new }
     {
         steps::update(&mut self.node, infos);
+        self.next_dial.from = Some(Duration::ZERO);
         self.latest = later(self.latest, now.steady);
     }
 
@@ -51,6 +53,7 @@ impl<C: PublicKey> Driver<C> {
             return Err(AllocError);
         };
         self.latest = time;
+        self.next_dial.from = Some(Duration::ZERO);
         connections::shut(&mut self.links, &mut self.actions, peer, Why::Blocked);
         Ok(taken)
     }

@@ -50,6 +50,9 @@ impl<C: PublicKey> Driver<C> {
         let Some(held) = self.links.get(&peer) else {
             return Admission::Unknown;
         };
+        if held.is_dialing() {
+            return Admission::Unknown;
+        }
         if held.waiting.is_some() {
             return Admission::Unasked;
         }
@@ -114,6 +117,7 @@ impl<C: PublicKey> Driver<C> {
             }
             Came::Breach(breach) => {
                 self.latest = time;
+                self.next_dial.from = Some(Duration::ZERO);
                 let (node, links) = (&mut self.node, &mut self.links);
                 hearing::break_off(node, links, &mut self.actions, peer, breach, time);
                 Admission::Heard(Heard::Closing(Why::Breach(breach)))
@@ -150,12 +154,14 @@ impl<C: PublicKey> Driver<C> {
             }
             Served::Applied => {
                 self.latest = time;
+                self.next_dial.from = Some(Duration::ZERO);
                 self.actions.give_back(1);
                 self.links.hear(peer, time, owed, None);
                 Admission::Heard(Heard::Applied(0))
             }
             Served::Malformed => {
                 self.latest = time;
+                self.next_dial.from = Some(Duration::ZERO);
                 self.actions.give_back(1);
                 let (node, links) = (&mut self.node, &mut self.links);
                 let breach = Breach::Malformed;
@@ -207,6 +213,7 @@ impl<C: PublicKey> Driver<C> {
             return Ok(Heard::Dropped);
         }
         let (phase, owed, asked) = (held.phase, held.owed, held.asked);
+        let dialer = held.is_dialer();
         let judged = serving::judge(&mut self.node, phase, &peer, waiting, verdicts);
         let time = later(self.latest, now.steady);
         match judged {
@@ -225,14 +232,17 @@ impl<C: PublicKey> Driver<C> {
                     owed,
                     &peer,
                     link.0,
+                    dialer,
                     time,
                 );
+                self.next_dial.from = Some(Duration::ZERO);
                 Ok(Heard::Greeted)
             }
             Judged::Applied(count) => {
                 self.latest = time;
                 self.actions.give_back(3);
                 self.links.hear(&peer, time, owed, None);
+                self.next_dial.from = Some(Duration::ZERO);
                 Ok(Heard::Applied(count))
             }
             Judged::Refused(error) if frames::is_early(error) => {
@@ -243,6 +253,7 @@ impl<C: PublicKey> Driver<C> {
             }
             Judged::Refused(error) => {
                 self.latest = time;
+                self.next_dial.from = Some(Duration::ZERO);
                 self.actions.give_back(3);
                 let breach = Breach::Invalid(error);
                 let (node, links) = (&mut self.node, &mut self.links);

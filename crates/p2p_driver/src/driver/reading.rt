@@ -18,6 +18,7 @@ use crate::pace::Pace;
 use crate::rate::Rate;
 use p2p_directory::node::wire::Frames;
 use p2p_discovery::codec::PublicKey;
+use std::time::Duration;
 
 impl<C: PublicKey> Driver<C> {
     /// A frame of `length` bytes is to come on a link, of which the first bytes are there: its
@@ -51,6 +52,9 @@ impl<C: PublicKey> Driver<C> {
         let Some(held) = self.links.get(&peer) else {
             return Read::Unknown;
         };
+        if held.is_dialing() {
+            return Read::Unknown;
+        }
         if held.phase == Phase::Closing {
             return Read::Closing;
         }
@@ -100,6 +104,7 @@ impl<C: PublicKey> Driver<C> {
             }
             Kind::NoGreeting => {
                 self.latest = time;
+                self.next_dial.from = Some(Duration::ZERO);
                 let (node, links) = (&mut self.node, &mut self.links);
                 let breach = Breach::NoGreeting;
                 hearing::break_off(node, links, &mut self.actions, peer, breach, time);
@@ -107,6 +112,7 @@ impl<C: PublicKey> Driver<C> {
             }
             Kind::TooLong => {
                 self.latest = time;
+                self.next_dial.from = Some(Duration::ZERO);
                 let (node, links) = (&mut self.node, &mut self.links);
                 let breach = Breach::FrameLength;
                 hearing::break_off(node, links, &mut self.actions, peer, breach, time);

@@ -12,6 +12,7 @@ use p2p_directory::node::wire::Frames;
 use p2p_discovery::codec::PublicKey;
 use p2p_tracker::directory::TrackedPeers;
 use std::alloc::AllocError;
+use std::time::Duration;
 
 /// What became of a set.
 #[derive(Clone, Copy, Debug, PartialEq, Eq)]
@@ -62,8 +63,12 @@ impl<C: PublicKey> Driver<C> {
         }
         match steps::track(&mut self.node, index, peers) {
             None => Err(AllocError),
-            Some(None) => Ok(Tracked::Stale),
+            Some(None) => {
+                self.next_dial.from = Some(Duration::ZERO);
+                Ok(Tracked::Stale)
+            }
             Some(Some(torn)) => {
+                self.next_dial.from = Some(Duration::ZERO);
                 self.latest = later(self.latest, now.steady);
                 connections::shut_all(&mut self.links, &mut self.actions, torn.as_slice());
                 Ok(Tracked::Accepted)

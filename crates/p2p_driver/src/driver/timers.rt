@@ -1,6 +1,7 @@
 //! What a driver does when time passes.
 
 ghost use Rattle.std.specs.Prelude.{ℕ, ◌≡◌, ◌≤◌, ◌<◌, true, false, max, Option, option_map};
+ghost use Rattle.std.specs.Prelude.{length};
 ghost use Rattle.std.specs.Prelude.{IfSome};
 ghost use Rattle.std.specs.Duration.{as_nanos, max_nanos};
 ghost use Rattle.std.specs.Option.{IsSomeAnd};
@@ -9,7 +10,7 @@ ghost use Rattle.p2p_driver.specs.Happenings.Happening.{Passed};
 ghost use Rattle.p2p_driver.specs.Links.{link_of, is_to_ask};
 ghost use Rattle.p2p_driver.specs.Timers.{NoneLate, NoneToAsk, NoneDue, IsAsBefore};
 ghost use Rattle.p2p_driver.specs.Timers.{ClosesOne, ClosesLate, AsksOne, AsksAll, TimesOut};
-ghost use Rattle.p2p_driver.specs.Timers.{earlier, held_moment, IsNextTimeout};
+ghost use Rattle.p2p_driver.specs.Timers.{earlier, held_moment, IsNextTimeout, NoneToDial, dial_due};
 
 use crate::actions::Why;
 use crate::driver::{Driver, later};
@@ -35,26 +36,38 @@ impl<C: PublicKey> Driver<C> {
     /// sent. A peer isn't asked if `queue` frames of its link were said and aren't written: it is
     /// as if it had been, and the next question is due a `tick` later.
     ///
-    /// None of these is due afterwards: [`Driver::next_timeout`] is later than now, unless that is
-    /// the greatest `Duration`. Before the time that it returns, nothing is due: only the time goes
+    /// While a dial has a place, by `links`, `outbound` and `dials` of the settings, and somebody
+    /// may be dialled, by [`Directory::dialable`](p2p_tracker::directory::Directory::dialable), one
+    /// of these is, for each random word: it says which one, and the jitter.
+    ///
+    /// None of these is due afterwards if there are at least `dials` words: then
+    /// [`Driver::next_timeout`] is later than now, unless that is the greatest `Duration`, or peers
+    /// need no time to cool. Before the time that it returns, nothing is due: only the time goes
     /// on.
     ///
     /// # Errors
     ///
     /// `AllocError` if an allocation fails for a question: it is as if it had been asked, and the
-    /// next one is due a `tick` later. All else is done.
+    /// next one is due a `tick` later. So it is if one fails for a dial: nobody is dialled for a
+    /// `tick`. All else is done.
     ///
     /// # Cost
     ///
     /// One pass over the streams and the links for each that is closed, and three more. Some
     /// searches among the links and that of [`Node::ask`](p2p_directory::node::Node::ask) for each
     /// that is asked. That of [`Node::forget_cooled`](p2p_directory::node::Node::forget_cooled),
-    /// and that of [`Node::unblock_expired`](p2p_directory::node::Node::unblock_expired).
-    pub fn timeout(&mut self, now: Now) -> Result<(), AllocError>
+    /// and that of [`Node::unblock_expired`](p2p_directory::node::Node::unblock_expired). For
+    /// each word two passes over the links, if it is time to dial; then, if a dial has a place, that
+    /// of [`Directory::dialable`](p2p_tracker::directory::Directory::dialable); and then, if
+    /// somebody may be dialled, that of [`Node::dial`](p2p_directory::node::Node::dial).
+    pub fn timeout(&mut self, words: &[u64], now: Now) -> Result<(), AllocError>
         ensures did { let wire = ⟦<C as Frames>⟧.wire in
-            TimesOut C.cmp wire (as_nanos now.steady) result self.old self.new }
+            TimesOut C.cmp wire (as_nanos now.steady) words.now result self.old self.new }
         ensures done { NoneDue C.cmp (max self.old.latest (as_nanos now.steady)) self.new }
+        ensures dialed { self.old.pace.dials ≤ length words.now →
+            NoneToDial (max self.old.latest (as_nanos now.steady)) self.new }
         ensures later { let t = max self.old.latest (as_nanos now.steady) in t < max_nanos →
+            self.old.pace.dials ≤ length words.now → 0 < self.old.cooldown →
             (next : Option ℕ) → IsNextTimeout C.cmp self.new next → IfSome next (λ n. t < n) }
         ensures early { let t = max self.old.latest (as_nanos now.steady) in
             (next : Option ℕ) → IsNextTimeout C.cmp self.old next → IfSome next (λ n. t < n) →
@@ -63,28 +76,45 @@ impl<C: PublicKey> Driver<C> {
         let now = later(self.latest, now.steady);
         self.pass(now);
         self.close_all_late(now);
-        self.ask_all_due(now)
+        let asked = self.ask_all_due(now);
+        let dialed = self.dial_all_due(words, now);
+        asked.and(dialed)
     }
 
     /// When something is due next, a steady time: a stream or a link is late, a peer is to be
-    /// asked, or a block or a cooldown ends. `None` if there is nothing that may become due. A
-    /// moment above the greatest `Duration` is that one. It doesn't allocate, and changes nothing.
+    /// asked, a block or a cooldown ends, or somebody may be dialled. `None` if there is nothing
+    /// that may become due. A moment above the greatest `Duration` is that one. It doesn't allocate, and
+    /// changes nothing.
     ///
     /// # Cost
     ///
-    /// One pass over the streams, and one over the links.
+    /// One pass over the streams, and three over the links.
     pub fn next_timeout(&self) -> Option<Duration>
         ensures { IsNextTimeout C.cmp self.now (option_map as_nanos result) }
     {
         let stream = self.arrivals.next_late(&self.pace);
-        let pace = &self.pace;
-        let link = self.links.next_due(pace.greeting, pace.silence, pace.tick);
+        let link = self.links.next_due(&self.pace);
         let block = self.node.directory().next_unblock();
         let cooldown = self.node.next_cooled();
         earlier(
-            earlier(moment(stream), moment(link)),
-            earlier(block, cooldown),
+            moment(self.dial_due()),
+            earlier(
+                earlier(moment(stream), moment(link)),
+                earlier(block, cooldown),
+            ),
         )
+    }
+
+    // From when on somebody may be dialled, in nanoseconds, if somebody may.
+    fn dial_due(&self) -> Option<u128>
+        ensures { result ≡ dial_due self.now }
+    {
+        let from = self.next_dial.from?;
+        if connections::has_dial_place(&self.links, &self.pace) {
+            Some(from.as_nanos().max(self.next_dial.retry))
+        } else {
+            None
+        }
     }
 
     // Ends what ends by now: cooldowns and blocks.
@@ -130,7 +160,7 @@ impl<C: PublicKey> Driver<C> {
             );
             return true;
         }
-        if let Some(peer) = self.links.late(self.pace.greeting, self.pace.silence, now) {
+        if let Some(peer) = self.links.late(&self.pace, now) {
             let why = connections::why_late(&self.links, &peer);
             connections::shut(&mut self.links, &mut self.actions, &peer, why);
             return true;

@@ -1,13 +1,13 @@
 //! What an application tells a driver: blocks, partings and infos.
 
-use crate::fixtures::{
-    SETTINGS, Said, admit, at, claim, driven, infos, list, next, next_two, open, pace, prove,
-    sends, track,
-};
 use p2p_discovery::codec::TestKey;
 use p2p_driver::actions::{Event, Why};
 use p2p_driver::driver::Driver;
 use p2p_driver::link::Link;
+use p2p_driver_fixtures::{
+    SETTINGS, Said, admit, at, claim, driven, infos, list, next, next_two, open, pace, prove,
+    sends, track,
+};
 use std::alloc::Global;
 use std::test::Fail;
 use std::time::Duration;

@@ -1,14 +1,14 @@
 //! Links of peers that are silent, and the two clocks.
 
-use crate::fixtures::{
-    SETTINGS, Said, admit, admitted, at, at_wall, driven, frame, greeting, list, next, next_two,
-    next_unsent, open, pace, prove, tested, track, with_channels,
-};
 use p2p_discovery::codec::TestKey;
 use p2p_driver::actions::{Event, Why};
 use p2p_driver::admission::{Heard, Misjudged};
 use p2p_driver::driver::Driver;
 use p2p_driver::link::Link;
+use p2p_driver_fixtures::{
+    SETTINGS, Said, admit, admitted, at, at_wall, driven, frame, greeting, list, next, next_two,
+    next_unsent, open, pace, prove, tested, track, with_channels,
+};
 use std::alloc::{AllocError, Global};
 use std::test::Fail;
 use std::time::Duration;
@@ -16,9 +16,9 @@ use std::time::Duration;
 // Tells the tested driver the time a millisecond before and at the moment. Returns what it says:
 // before, but its questions.
 fn told(driver: &mut Driver<TestKey>, millis: u64) -> Result<(Said, [Said; 2]), AllocError> {
-    driver.timeout(at(millis.saturating_sub(1)))?;
+    driver.timeout(&[], at(millis.saturating_sub(1)))?;
     let before = next_unsent(driver);
-    driver.timeout(at(millis))?;
+    driver.timeout(&[], at(millis))?;
     Ok((before, next_two(driver)))
 }
 
@@ -35,7 +35,7 @@ fn never_again(
     driver: &mut Driver<TestKey>,
 ) -> Result<(Option<Duration>, (Said, [Said; 2])), Fail> {
     open(alloc, driver, "track 0 1,2")?;
-    driver.timeout(at(93_000))?;
+    driver.timeout(&[], at(93_000))?;
     let wake = driver.next_timeout();
     Ok((wake, told(driver, 122_000)?))
 }
@@ -146,11 +146,11 @@ fn jumps(
     open(alloc, driver, "track 0 1,2")?;
     let empty = frame(alloc, &[3, 0])?;
     admitted(driver, Link(1), &empty, at_wall(10_000, wall));
-    driver.timeout(at_wall(101_000, wall))?;
+    driver.timeout(&[], at_wall(101_000, wall))?;
     let wake = driver.next_timeout();
-    driver.timeout(at_wall(129_999, 0))?;
+    driver.timeout(&[], at_wall(129_999, 0))?;
     let before = next_unsent(driver);
-    driver.timeout(at_wall(130_000, wall))?;
+    driver.timeout(&[], at_wall(130_000, wall))?;
     Ok((before, next_two(driver), wake))
 }
 
@@ -169,7 +169,7 @@ fn a_wall_clock_that_jumps_moves_no_deadline(rt: HostRuntime) -> Result<(), Fail
 // went back from 100 s.
 fn back(alloc: Global, driver: &mut Driver<TestKey>) -> Result<(Said, [Said; 2]), Fail> {
     open(alloc, driver, "track 0 1,2")?;
-    driver.timeout(at(100_000))?;
+    driver.timeout(&[], at(100_000))?;
     admit(alloc, driver, &[3, 0], 90_000)?;
     Ok(told(driver, 220_000)?)
 }

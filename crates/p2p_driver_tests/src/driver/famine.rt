@@ -1,6 +1,5 @@
 //! Calls that find no memory change nothing, and succeed once there is some.
 
-use crate::fixtures::{SETTINGS, Said, at, driven, ipv4, next, pace, prove, track};
 use failing_alloc::{FailingAlloc, STEP};
 use lines::{command, setup};
 use p2p_directory::record::Status;
@@ -9,6 +8,7 @@ use p2p_discovery::codec::TestKey;
 use p2p_driver::actions::Why;
 use p2p_driver::driver::{Driver, Tracked};
 use p2p_driver::link::Link;
+use p2p_driver_fixtures::{SETTINGS, Said, at, driven, ipv4, next, pace, prove, track};
 use std::alloc::Global;
 use std::process::Abort;
 use std::test::Fail;

@@ -1,12 +1,12 @@
 //! Deadlines: who is late, and when a driver wakes.
 
-use crate::fixtures::{
-    SETTINGS, Said, at, claim, driven, ipv4, next, next_two, pace, prove, track,
-};
 use p2p_discovery::codec::TestKey;
 use p2p_driver::actions::Why;
 use p2p_driver::driver::Driver;
 use p2p_driver::link::Link;
+use p2p_driver_fixtures::{
+    SETTINGS, Said, at, claim, driven, ipv4, next, next_two, pace, prove, track,
+};
 use std::alloc::{AllocError, Global};
 use std::test::Fail;
 use std::time::Duration;
@@ -23,7 +23,7 @@ fn woken(
     driver: &mut Driver<TestKey>,
     millis: u64,
 ) -> Result<([Said; 2], Option<u128>), AllocError> {
-    driver.timeout(at(millis))?;
+    driver.timeout(&[], at(millis))?;
     Ok((next_two(driver), wake(driver)))
 }
 
@@ -53,7 +53,7 @@ fn lates(alloc: Global, driver: &mut Driver<TestKey>) -> Result<Lates, Fail> {
         woken(driver, 16_999)?,
         woken(driver, 17_000)?,
     ];
-    driver.timeout(at(20_000))?;
+    driver.timeout(&[], at(20_000))?;
     let silent = next_two(driver);
     let ended = [
         driver.ended(Link(1), at(20_001)),
@@ -102,7 +102,7 @@ fn late_together(alloc: Global, driver: &mut Driver<TestKey>) -> Result<([Said; 
     claim(driver, 2, 1, 10_000)?;
     prove(driver, 3, 2, 10_000)?;
     next(driver);
-    driver.timeout(at(15_000))?;
+    driver.timeout(&[], at(15_000))?;
     let [first, second] = next_two(driver);
     let [third, last] = next_two(driver);
     Ok(([first, second, third], last))
@@ -129,7 +129,7 @@ fn cooled(alloc: Global, driver: &mut Driver<TestKey>) -> Result<Cooled, Fail> {
     driver.ended(Link(1), at(1_000));
     let before = wake(driver);
     let (_, early) = claim(driver, 1, 1, 60_999)?;
-    driver.timeout(at(61_000))?;
+    driver.timeout(&[], at(61_000))?;
     let after = wake(driver);
     let (_, late) = claim(driver, 1, 1, 61_000)?;
     Ok(([before, after], [early, late]))
@@ -154,9 +154,9 @@ fn back(driver: &mut Driver<TestKey>) -> Result<Back, AllocError> {
     driver.ended(Link(1), at(9_000));
     driver.arrived(ipv4(1), at(5_000))?;
     let second = wake(driver);
-    driver.timeout(at(8_000))?;
+    driver.timeout(&[], at(8_000))?;
     let silent = next(driver);
-    driver.timeout(at(13_000))?;
+    driver.timeout(&[], at(13_000))?;
     Ok(([first, second], silent, next_two(driver)))
 }
 

@@ -1,15 +1,15 @@
 //! Links that are up, when they end, when a set closes them, and when there are two.
 
-use crate::fixtures::{
-    SETTINGS, Said, admit, admitted, at, driven, frame, greeting, list, next, next_two, open, pace,
-    prove, track, with_channels,
-};
 use p2p_directory::record::Status;
 use p2p_discovery::codec::TestKey;
 use p2p_driver::actions::{Breach, Event, Why};
 use p2p_driver::admission::{Admission, Heard, Misjudged};
 use p2p_driver::driver::Driver;
 use p2p_driver::link::Link;
+use p2p_driver_fixtures::{
+    SETTINGS, Said, admit, admitted, at, driven, frame, greeting, list, next, next_two, open, pace,
+    prove, track, with_channels,
+};
 use std::alloc::Global;
 use std::test::Fail;
 

@@ -1,11 +1,11 @@
 //! Places for links.
 
-use crate::fixtures::{SETTINGS, Said, at, claim, driven, next_two, pace, prove, track};
 use p2p_discovery::codec::TestKey;
 use p2p_driver::actions::Why;
 use p2p_driver::driver::Driver;
 use p2p_driver::link::Link;
 use p2p_driver::pace::Pace;
+use p2p_driver_fixtures::{SETTINGS, Said, at, claim, driven, next_two, pace, prove, track};
 use std::alloc::Global;
 use std::test::Fail;
 
@@ -37,7 +37,6 @@ fn narrow(alloc: Global, links: usize) -> Pace {
     pace.links = links;
     pace.inbound = 1;
     pace.outbound = 1;
-    pace.dials = 1;
     pace
 }
 

@@ -1,9 +1,9 @@
 //! Queries: how much there is of a driver, whose link is which, and what of a link waits.
 
-use crate::fixtures::{SETTINGS, at, driven, greet, ipv4, next, next_two, pace, prove, track};
 use p2p_discovery::codec::TestKey;
 use p2p_driver::driver::{Counts, Driver};
 use p2p_driver::link::Link;
+use p2p_driver_fixtures::{SETTINGS, at, driven, greet, ipv4, next, next_two, pace, prove, track};
 use std::alloc::Global;
 use std::test::Fail;
 

@@ -1,13 +1,13 @@
 //! Questions of a peer, and the first one that it is asked.
 
-use crate::fixtures::{
-    SETTINGS, Said, admit, admitted, at, at_wall, driven, frame, greet, infos, list, next, open,
-    pace, prove, sends, tested, track,
-};
 use p2p_discovery::codec::TestKey;
 use p2p_driver::admission::{Admission, Heard};
 use p2p_driver::driver::Driver;
 use p2p_driver::link::{Link, Now};
+use p2p_driver_fixtures::{
+    SETTINGS, Said, admit, admitted, at, at_wall, driven, frame, greet, infos, list, next, open,
+    pace, prove, sends, tested, track,
+};
 use std::alloc::Global;
 use std::test::Fail;
 

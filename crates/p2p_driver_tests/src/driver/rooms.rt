@@ -1,12 +1,12 @@
 //! Room for streams, and for claims.
 
-use crate::fixtures::{SETTINGS, Said, at, claim, driven, ipv4, next, next_two, pace, track};
 use p2p_discovery::codec::TestKey;
 use p2p_driver::actions::Why;
 use p2p_driver::driver::Driver;
 use p2p_driver::link::Link;
 use p2p_driver::pace::Pace;
 use p2p_driver::rate::Rate;
+use p2p_driver_fixtures::{SETTINGS, Said, at, claim, driven, ipv4, next, next_two, pace, track};
 use std::alloc::{AllocError, Global};
 use std::num::NonZeroU32;
 use std::test::Fail;

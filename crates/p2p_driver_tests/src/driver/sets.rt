@@ -1,12 +1,12 @@
 //! Sets that come, and the links of peers that no set has any more.
 
-use crate::fixtures::{
-    SETTINGS, Said, at, claim, driven, ipv4, next, next_two, pace, prove, track,
-};
 use p2p_discovery::codec::TestKey;
 use p2p_driver::actions::Why;
 use p2p_driver::driver::{Driver, Tracked};
 use p2p_driver::link::Link;
+use p2p_driver_fixtures::{
+    SETTINGS, Said, at, claim, driven, ipv4, next, next_two, pace, prove, track,
+};
 use std::alloc::Global;
 use std::test::Fail;
 use std::time::Duration;

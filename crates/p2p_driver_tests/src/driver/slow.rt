@@ -1,14 +1,14 @@
 //! Links with frames that aren't written: when they are slow, and when they are silent.
 
-use crate::fixtures::{
-    SETTINGS, Said, admit, admitted, at, driven, greet, greeting, open, pace, prove, take,
-    take_all, tested, track,
-};
 use p2p_discovery::codec::TestKey;
 use p2p_driver::actions::{Event, Why};
 use p2p_driver::driver::Driver;
 use p2p_driver::link::{Link, Now};
 use p2p_driver::pace::Pace;
+use p2p_driver_fixtures::{
+    SETTINGS, Said, admit, admitted, at, driven, greet, greeting, open, pace, prove, take,
+    take_all, tested, track,
+};
 use std::alloc::{AllocError, Global};
 use std::test::Fail;
 use std::time::Duration;
@@ -26,13 +26,16 @@ type Late = (bool, Option<Duration>, [Said; 2]);
 fn late_at(driver: &mut Driver<TestKey>, millis: u64) -> Result<Late, AllocError> {
     let count = driver.counts().actions;
     let nanos = millis.saturating_mul(1_000_000);
-    driver.timeout(Now {
-        steady: Duration::from_nanos(nanos.saturating_sub(1)),
-        wall: Duration::ZERO,
-    })?;
+    driver.timeout(
+        &[],
+        Now {
+            steady: Duration::from_nanos(nanos.saturating_sub(1)),
+            wall: Duration::ZERO,
+        },
+    )?;
     let silent = driver.counts().actions == count;
     let wake = driver.next_timeout();
-    driver.timeout(at(millis))?;
+    driver.timeout(&[], at(millis))?;
     take_all(driver, count);
     Ok((silent, wake, [take(driver), take(driver)]))
 }
@@ -131,7 +134,7 @@ fn asked(
 ) -> Result<Late, Fail> {
     open(alloc, driver, "track 0 1,2")?;
     admit(alloc, driver, EMPTY, before)?;
-    driver.timeout(at(123_000))?;
+    driver.timeout(&[], at(123_000))?;
     take(driver);
     if let Some(after) = after {
         admit(alloc, driver, EMPTY, after)?;
@@ -166,12 +169,12 @@ fn too_late(
 ) -> Result<[Said; 2], Fail> {
     open(alloc, driver, "track 0 1,2")?;
     admit(alloc, driver, EMPTY, 50_000)?;
-    driver.timeout(at(123_000))?;
+    driver.timeout(&[], at(123_000))?;
     take(driver);
     if let Some(after) = after {
         admit(alloc, driver, EMPTY, after)?;
     }
-    driver.timeout(at(900_000))?;
+    driver.timeout(&[], at(900_000))?;
     Ok([take(driver), take(driver)])
 }
 

@@ -1,14 +1,14 @@
 //! Streams that claim and are proved, or aren't.
 
-use crate::fixtures::{
-    SETTINGS, Said, at, claim, driven, ipv4, next, next_two, pace, prove, sends, track,
-};
 use lines::setup;
 use p2p_discovery::codec::{TestKey, Write};
 use p2p_discovery::discovery::Payload;
 use p2p_driver::actions::Why;
 use p2p_driver::driver::Driver;
 use p2p_driver::link::Link;
+use p2p_driver_fixtures::{
+    SETTINGS, Said, at, claim, driven, ipv4, next, next_two, pace, prove, sends, track,
+};
 use std::alloc::Global;
 use std::test::Fail;
 

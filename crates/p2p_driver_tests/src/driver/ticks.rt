@@ -1,24 +1,27 @@
 //! Further questions of a link: when its peer is asked again, who isn't, and when a driver wakes.
 
-use crate::fixtures::{
-    SETTINGS, Said, admitted, at, driven, greet, greeting, list, next, next_two, open, pace, prove,
-    tested, track,
-};
 use p2p_discovery::codec::TestKey;
 use p2p_driver::actions::{Event, Why};
 use p2p_driver::admission::{Admission, Heard, Misjudged};
 use p2p_driver::driver::Driver;
 use p2p_driver::link::{Link, Now};
+use p2p_driver_fixtures::{
+    SETTINGS, Said, admitted, at, driven, greet, greeting, list, next, next_two, open, pace, prove,
+    tested, track,
+};
 use std::alloc::{AllocError, Global};
 use std::test::Fail;
 use std::time::Duration;
 
 // Tells the tested driver a steady time in nanoseconds. Returns what it says.
 fn told(driver: &mut Driver<TestKey>, nanos: u64) -> Result<[Said; 2], AllocError> {
-    driver.timeout(Now {
-        steady: Duration::from_nanos(nanos),
-        wall: Duration::ZERO,
-    })?;
+    driver.timeout(
+        &[],
+        Now {
+            steady: Duration::from_nanos(nanos),
+            wall: Duration::ZERO,
+        },
+    )?;
     Ok(next_two(driver))
 }
 
@@ -94,7 +97,7 @@ fn both(alloc: Global, driver: &mut Driver<TestKey>) -> Result<[[Said; 2]; 6], F
     let first = told(driver, 32_000_000_000)?;
     let between = told(driver, 41_999_999_999)?;
     let other = told(driver, 42_000_000_000)?;
-    driver.timeout(at(75_000))?;
+    driver.timeout(&[], at(75_000))?;
     let all = next_two(driver);
     Ok([
         first,

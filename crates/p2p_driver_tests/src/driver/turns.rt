@@ -1,11 +1,11 @@
 //! Which set a peer is asked for next, and how, by the bytes of each question.
 
-use crate::fixtures::{
-    SETTINGS, Said, admit, at, driven, greet, next, next_two, pace, prove, sends, tested, track,
-};
 use p2p_discovery::codec::TestKey;
 use p2p_driver::driver::Driver;
 use p2p_driver::pace::Pace;
+use p2p_driver_fixtures::{
+    SETTINGS, Said, admit, at, driven, greet, next, next_two, pace, prove, sends, tested, track,
+};
 use std::alloc::Global;
 use std::test::Fail;
 use std::time::Duration;
@@ -42,7 +42,7 @@ fn asks_at(alloc: Global, driver: &mut Driver<TestKey>, ticks: &[Tick]) -> Resul
             track(alloc, driver, *line, before)?;
         }
         admit(alloc, driver, &[3, 0], before)?;
-        driver.timeout(at(millis))?;
+        driver.timeout(&[], at(millis))?;
         all = all && sends(driver, *question) && next(driver) == Said::Nothing;
     }
     Ok(all)
@@ -229,7 +229,7 @@ fn full_rounds(alloc: Global, driver: &mut Driver<TestKey>) -> Result<(u64, u64)
     asks_first(alloc, driver, WANTED)?;
     let (mut first, mut count) = (0u64, 0u64);
     for round in 2..=41u64 {
-        driver.timeout(at(round.saturating_mul(30_000)))?;
+        driver.timeout(&[], at(round.saturating_mul(30_000)))?;
         if sends(driver, FULL) {
             count = count.saturating_add(1);
             if first == 0 {

@@ -59,7 +59,7 @@ impl Hour for Driver<Key32> {
                 return Err(Stop::Words);
             };
         }
-        if self.timeout(now).is_err() {
+        if self.timeout(&[], now).is_err() {
             return Err(Stop::Words);
         }
         let (count, mut done) = take(self);

@@ -42,11 +42,12 @@ pub(crate) fn at(millis: u64) -> Now {
     }
 }
 
-/// The settings of a timed driver, which asks for all infos of no set.
+/// The settings of a timed driver, which asks for all infos of no set, and dials nobody.
 pub(crate) fn pace(alloc: Global) -> Pace {
     let mut pace = Pace::recommended(alloc, 256, Duration::from_secs(10)).pace;
     pace.links = LINKS;
     pace.inbound = LINKS;
+    pace.dials = 0;
     pace.refresh = 0;
     pace
 }
@@ -150,7 +151,7 @@ pub(crate) fn begin(alloc: Global, driver: &mut Driver<Key32>, keys: &[Key32]) -
 fn pass(driver: &mut Driver<Key32>, now: Now) -> usize {
     let mut done = 0usize;
     for _ in 0..TIMES {
-        if driver.timeout(now).is_ok() {
+        if driver.timeout(&[], now).is_ok() {
             done = done.saturating_add(1);
         }
     }
@@ -173,7 +174,7 @@ fn time_each(
         let start = Instant::now(rt)?;
         let passed = match passing {
             Passing::Idle => pass(driver, now),
-            _ => usize::from(driver.timeout(now).is_ok()),
+            _ => usize::from(driver.timeout(&[], now).is_ok()),
         };
         let time = start.elapsed(rt)?;
         let (said, _sent) = take(driver);

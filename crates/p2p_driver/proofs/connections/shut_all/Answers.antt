@@ -15,7 +15,7 @@ loop-peer-preserved g c =
     let links = c.loop-peer.links in
     let invariant = c.loop-peer.invariant in (
       (let room = c.shut.ensures.room in let before = invariant.0 in grind (arith)),
-      c.shut.ensures.count ∙ invariant.1,
+      (λ way. c.shut.ensures.counts way ∙ invariant.1 way),
       shut_next cmp p rest links c.shut.new.links c.loop-peer.actions.items c.shut.new.actions.items
           c.shut.ensures.links c.shut.ensures.said
           ∙ ap (λ x. c.loop-peer.actions.items ++ shut_all cmp (x ∷ rest) (link_of cmp links)) c.peer-item.is

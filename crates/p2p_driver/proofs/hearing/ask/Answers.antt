@@ -35,3 +35,9 @@ returns-in-None-clause-fewer g c tick is = fewer _ _ _ (c.ask-in-None.ensures.fe
     (subst (λ (a : Asked). as_nanos c.args.now < as_nanos a.at + max tick 1) (sym c.tried.ensures) (later (as_nanos c.args.now) tick))
     (still_due tick (as_nanos c.args.now) _ (is_at (g.C.Ord.cmp c.args.peer.now) c.args.peer.now) _ _ (c.say_question.ensures.links c.args.peer.now) is))
     (c.say_question.ensures.to_ask tick (as_nanos c.args.now))
+
+pub returns-in-Some-clause-counts : goal.returns-in-Some-clause-counts
+returns-in-Some-clause-counts g c way = c.ask.ensures.counts way ∙ c.say_question.ensures.counts way
+
+pub returns-in-None-clause-counts : goal.returns-in-None-clause-counts
+returns-in-None-clause-counts g c way = c.ask-in-None.ensures.counts way ∙ c.say_question.ensures.counts way

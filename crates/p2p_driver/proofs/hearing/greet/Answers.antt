@@ -47,10 +47,29 @@ returns-in-Some-clause-greets g c info = (
         (changed_twice (is_at (g.C.Ord.cmp c.args.peer.now) q) (saying (Some c.args.now)) (opened c.args.now c.owed-owed.result c.after.result)
         (link_of g.C.Ord.cmp c.args.links.now q) (link_of g.C.Ord.cmp c.say_question.new.links q) (link_of g.C.Ord.cmp c.open.new.self q)
         (c.in-Some.ensures.links q) (c.open.ensures.links q));
-    count = c.open.ensures.count ∙ c.in-Some.ensures.count;
+    counts = λ way. c.open.ensures.counts way ∙ c.say_question.ensures.counts way;
     said = c.push-in-Some.ensures.items
         ∙ ap (λ xs. xs ++ action.Send (record { 0 = c.args.number }) c.in-Some.question.frame ∷ []) c.push.ensures.items
         ∙ append_assoc c.args.actions.now.items (action.Told (event.Up (record { 0 = c.args.number }) c.args.peer.now) ∷ [])
         (action.Send (record { 0 = c.args.number }) c.in-Some.question.frame ∷ []);
+  },
+)
+
+pub returns-in-None-clause-greets : goal.returns-in-None-clause-greets
+returns-in-None-clause-greets g c info = (
+  None,
+  tt,
+  tt,
+  record {
+    links_are = λ q. greeted_at (is_at (g.C.Ord.cmp c.args.peer.now) q) c.args.now c.args.owed c.args.owed c.tried.result c.args.asked None
+        (link_of g.C.Ord.cmp c.args.links.now q) (link_of g.C.Ord.cmp c.open-in-None.new.self q)
+        (asked_of {cmp = g.C.Ord.cmp} g.met.C.Ord.total c.args.links.now c.args.peer.now q c.args.asked c.requires.asked) refl c.tried.ensures
+        (changed_twice (is_at (g.C.Ord.cmp c.args.peer.now) q) (saying None) (opened c.args.now c.args.owed c.tried.result)
+        (link_of g.C.Ord.cmp c.args.links.now q) (link_of g.C.Ord.cmp c.say_question.new.links q) (link_of g.C.Ord.cmp c.open-in-None.new.self q)
+        (subst (λ r. link_of g.C.Ord.cmp c.say_question.new.links q ≡ (if is_at (g.C.Ord.cmp c.args.peer.now) q
+        then option_map (saying (said_with c.args.now r)) (link_of g.C.Ord.cmp c.args.links.now q) else link_of g.C.Ord.cmp c.args.links.now q))
+        c.in-None.is (c.say_question.ensures.links q)) (c.open-in-None.ensures.links q));
+    counts = λ way. c.open-in-None.ensures.counts way ∙ c.say_question.ensures.counts way;
+    said = c.give_back.ensures.items ∙ c.push.ensures.items;
   },
 )

@@ -1,4 +1,4 @@
-use Rattle.std.proofs.Common.{◌∷◌, ◌≤◌, arith}
+use Rattle.std.proofs.Common.{◌∷◌, arith}
 use Rattle.std.proofs.lemmas.Bool.Decides.{nat_tests}
 use Rattle.std.specs.Duration.{as_nanos}
 use Rattle.p2p_driver.proofs.meters.may_twice.Goals as goal

@@ -30,7 +30,7 @@ returns-in-Ok-Received-Greeted g c =
     (answer_of g.C.Ord.cmp (wire_in g) c.args.node.now c.args.waiting.now c.args.verdicts.now c.as_slice.result.now c.in-Ok.frame (received.Greeted key)
     all c.in-Ok.ensures.cases (seen_as (of_field g c.in-Ok-Received-Greeted.field-0 c.in-Ok-Received-Greeted.field-0-0 (received.Greeted key) c.in-Ok-Received-Greeted.field-0-is c.in-Ok-Received-Greeted.field-0-0-is) c.in-Ok-Received-Greeted.ensures.seen).answer) in (
       tells.0,
-      λ question. (tells.1, tells.2),
+      λ dialer question. (tells.1, tells.2),
       greeting_made g.C.Ord.cmp (wire_in g) c.args.node.now c.args.waiting.now c.args.verdicts.now c.answer_with_verdicts.new.self key
           (received_as g.C.Ord.cmp (wire_in g) c.args.node.now c.args.waiting.now c.args.verdicts.now c.answer_with_verdicts.new.self c.as_slice.result.now c.in-Ok.frame (received.Greeted key)
           all c.in-Ok.ensures.cases (subst (λ r. IsReceived g.C.Ord.cmp (wire_in g) (given_verdicts c.as_slice.result.now) c.in-Ok.frame (as_nanos c.args.waiting.now.wall) r

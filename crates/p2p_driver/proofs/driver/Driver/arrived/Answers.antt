@@ -12,7 +12,7 @@ pub invariant_of-self-in_default-room : goal.invariant_of-self-in_default-room
 invariant_of-self-in_default-room g c = (
   goes_on (Happening.Arrived c.self.inside.next c.of.result c.later-now.result c.in_ok-room.room) _ _
       c.self.invariant.0
-      (comes c.self.inside.node c.self.inside.pace c.self.inside.greeting (as_nanos c.self.inside.cooldown) (as_nanos c.self.inside.latest)
+      (comes c.self.inside.node c.self.inside.pace c.self.inside.greeting (as_nanos c.self.inside.cooldown) c.self.inside.next_dial (as_nanos c.self.inside.latest)
       c.self.inside.next c.self.inside.arrivals c.self.inside.answers c.self.inside.reads c.self.inside.links c.self.inside.actions.items
       c.of.result c.later-now.result c.in_ok-room.room c.take.new.arrivals c.take.new.answers c.take.new.actions.items c.in-Some.next
       (no_earlier _ _ _ c.later-now.ensures) c.in_default-room.not-None c.in_ok-room.ensures.room c.in_ok-room.ensures.arrivals
@@ -26,7 +26,7 @@ invariant_of-self-in_default-room g c = (
 
 pub returns-in-None-clause-none : goal.returns-in-None-clause-none
 returns-in-None-clause-none g c = λ _. (
-  kept_view c.self.inside.node c.self.inside.pace c.self.inside.greeting (as_nanos c.self.inside.cooldown) (as_nanos c.self.inside.latest)
+  kept_view c.self.inside.node c.self.inside.pace c.self.inside.greeting (as_nanos c.self.inside.cooldown) c.self.inside.next_dial (as_nanos c.self.inside.latest)
       c.self.inside.next c.self.inside.arrivals c.self.inside.answers c.self.inside.reads c.self.inside.links c.self.inside.actions.items
       _ c.take.new.answers _ (c.in_ok-room.ensures.arrivals ∙ ap (λ space. arrived (arrival_of c.self.inside.next c.of.result c.later-now.result) space c.self.inside.arrivals) c.in-None.is)
       c.in_ok-room.ensures.answers (c.in_ok-room.ensures.said ∙ search rules) ∙ c.self.view_is,
@@ -47,7 +47,7 @@ returns-in_default-room g c = record {
     does = (
       c.later-now.result,
       c.later-now.ensures,
-      comes c.self.inside.node c.self.inside.pace c.self.inside.greeting (as_nanos c.self.inside.cooldown) (as_nanos c.self.inside.latest)
+      comes c.self.inside.node c.self.inside.pace c.self.inside.greeting (as_nanos c.self.inside.cooldown) c.self.inside.next_dial (as_nanos c.self.inside.latest)
           c.self.inside.next c.self.inside.arrivals c.self.inside.answers c.self.inside.reads c.self.inside.links c.self.inside.actions.items
           c.of.result c.later-now.result c.in_ok-room.room c.take.new.arrivals c.take.new.answers c.take.new.actions.items c.in-Some.next
           (no_earlier _ _ _ c.later-now.ensures) c.in_default-room.not-None c.in_ok-room.ensures.room c.in_ok-room.ensures.arrivals

@@ -41,14 +41,14 @@ invariant_of-self g c = let d = c.self.inside in
     let there = subst (λ (v : DriverView g.row.C.Denot g.row.C-Signature.Denot). IsSomeAnd (link_of g.C.Ord.cmp v.links c.args.peer.now)
     (λ held. is_to_ask (as_nanos v.pace.tick) (as_nanos c.args.now) held ≡ true)) (sym c.self.view_is) c.requires.due in
     let due = subst (λ o. IsSomeAnd o (λ held. is_to_ask (as_nanos d.pace.tick) (as_nanos c.args.now) held ≡ true)) linked there in (
-      goes_on _ _ _ c.self.invariant.0 (asks_one g.C.Ord.cmp (wire_in g) d.node d.pace d.greeting (as_nanos d.cooldown) (as_nanos d.latest) d.next d.arrivals d.answers d.reads d.links d.actions.items g.met.C.PublicKey.exact
+      goes_on _ _ _ c.self.invariant.0 (asks_one g.C.Ord.cmp (wire_in g) d.node d.pace d.greeting (as_nanos d.cooldown) d.next_dial (as_nanos d.latest) d.next d.arrivals d.answers d.reads d.links d.actions.items g.met.C.PublicKey.exact
           c.in-Some.held.now.number c.args.peer.now c.in-Some.held.now c.args.now c.in-Some.held.now.owed false None true
           c.ask.new.self d.actions.items
           (ap (λ (v : DriverView g.row.C.Denot g.row.C-Signature.Denot). v.latest) c.self.view_is ∙ c.requires.time)
           linked refl due refl tt refl
           (subst (λ (a : Asked). (q : g.row.C.Denot) → link_of g.C.Ord.cmp c.ask.new.self q ≡ (if is_at (g.C.Ord.cmp c.args.peer.now) q
           then option_map (asking c.in-Some.held.now.owed a) (link_of g.C.Ord.cmp d.links q) else link_of g.C.Ord.cmp d.links q)) c.tried.ensures c.ask.ensures.links)
-          c.ask.ensures.count (said_none d.actions.items d.actions.items (search rules))
+          c.ask.ensures.counts (said_none d.actions.items d.actions.items (search rules))
           (c.ask.ensures.fewer (as_nanos d.pace.tick) (as_nanos c.args.now)
           (subst (λ (a : Asked). as_nanos c.args.now < as_nanos a.at + max (as_nanos d.pace.tick) 1) (sym c.tried.ensures) (later (as_nanos c.args.now) (as_nanos d.pace.tick)))
           there) (sym c.if-not-has_room.true ∙ c.has_room.ensures) tt).does,
@@ -65,15 +65,15 @@ returns-then-not-has_room g c = let d = c.self.inside in
     (λ held. is_to_ask (as_nanos v.pace.tick) (as_nanos c.args.now) held ≡ true)) (sym c.self.view_is) c.requires.due in
     let due = subst (λ o. IsSomeAnd o (λ held. is_to_ask (as_nanos d.pace.tick) (as_nanos c.args.now) held ≡ true)) linked there in
     subst (λ v. AsksOne g.C.Ord.cmp (wire_in g) c.args.now true v
-    (seen d.node d.pace d.greeting (as_nanos d.cooldown) (as_nanos d.latest) d.next d.arrivals d.answers d.reads c.ask.new.self d.actions.items))
-    c.self.view_is (asks_one g.C.Ord.cmp (wire_in g) d.node d.pace d.greeting (as_nanos d.cooldown) (as_nanos d.latest) d.next d.arrivals d.answers d.reads d.links d.actions.items g.met.C.PublicKey.exact
+    (seen d.node d.pace d.greeting (as_nanos d.cooldown) d.next_dial (as_nanos d.latest) d.next d.arrivals d.answers d.reads c.ask.new.self d.actions.items))
+    c.self.view_is (asks_one g.C.Ord.cmp (wire_in g) d.node d.pace d.greeting (as_nanos d.cooldown) d.next_dial (as_nanos d.latest) d.next d.arrivals d.answers d.reads d.links d.actions.items g.met.C.PublicKey.exact
     c.in-Some.held.now.number c.args.peer.now c.in-Some.held.now c.args.now c.in-Some.held.now.owed false None true
     c.ask.new.self d.actions.items
     (ap (λ (v : DriverView g.row.C.Denot g.row.C-Signature.Denot). v.latest) c.self.view_is ∙ c.requires.time)
     linked refl due refl tt refl
     (subst (λ (a : Asked). (q : g.row.C.Denot) → link_of g.C.Ord.cmp c.ask.new.self q ≡ (if is_at (g.C.Ord.cmp c.args.peer.now) q
     then option_map (asking c.in-Some.held.now.owed a) (link_of g.C.Ord.cmp d.links q) else link_of g.C.Ord.cmp d.links q)) c.tried.ensures c.ask.ensures.links)
-    c.ask.ensures.count (said_none d.actions.items d.actions.items (search rules))
+    c.ask.ensures.counts (said_none d.actions.items d.actions.items (search rules))
     (c.ask.ensures.fewer (as_nanos d.pace.tick) (as_nanos c.args.now)
     (subst (λ (a : Asked). as_nanos c.args.now < as_nanos a.at + max (as_nanos d.pace.tick) 1) (sym c.tried.ensures) (later (as_nanos c.args.now) (as_nanos d.pace.tick)))
     there) (sym c.if-not-has_room.true ∙ c.has_room.ensures) tt)
@@ -84,14 +84,14 @@ invariant_of-self-then-is_err g c = let d = c.self.inside in
     let there = subst (λ (v : DriverView g.row.C.Denot g.row.C-Signature.Denot). IsSomeAnd (link_of g.C.Ord.cmp v.links c.args.peer.now)
     (λ held. is_to_ask (as_nanos v.pace.tick) (as_nanos c.args.now) held ≡ true)) (sym c.self.view_is) c.requires.due in
     let due = subst (λ o. IsSomeAnd o (λ held. is_to_ask (as_nanos d.pace.tick) (as_nanos c.args.now) held ≡ true)) linked there in (
-      goes_on _ _ _ c.self.invariant.0 (asks_one g.C.Ord.cmp (wire_in g) d.node d.pace d.greeting (as_nanos d.cooldown) (as_nanos d.latest) d.next d.arrivals d.answers d.reads d.links d.actions.items g.met.C.PublicKey.exact
+      goes_on _ _ _ c.self.invariant.0 (asks_one g.C.Ord.cmp (wire_in g) d.node d.pace d.greeting (as_nanos d.cooldown) d.next_dial (as_nanos d.latest) d.next d.arrivals d.answers d.reads d.links d.actions.items g.met.C.PublicKey.exact
           c.in-Some.held.now.number c.args.peer.now c.in-Some.held.now c.args.now c.in-Some.held.now.owed true None false
           c.ask-then-is_err.new.self c.reserve.new.self.items
           (ap (λ (v : DriverView g.row.C.Denot g.row.C-Signature.Denot). v.latest) c.self.view_is ∙ c.requires.time)
           linked refl due refl tt refl
           (subst (λ (a : Asked). (q : g.row.C.Denot) → link_of g.C.Ord.cmp c.ask-then-is_err.new.self q ≡ (if is_at (g.C.Ord.cmp c.args.peer.now) q
           then option_map (asking c.in-Some.held.now.owed a) (link_of g.C.Ord.cmp d.links q) else link_of g.C.Ord.cmp d.links q)) c.tried-then-is_err.ensures c.ask-then-is_err.ensures.links)
-          c.ask-then-is_err.ensures.count (said_none d.actions.items c.reserve.new.self.items (search rules))
+          c.ask-then-is_err.ensures.counts (said_none d.actions.items c.reserve.new.self.items (search rules))
           (c.ask-then-is_err.ensures.fewer (as_nanos d.pace.tick) (as_nanos c.args.now)
           (subst (λ (a : Asked). as_nanos c.args.now < as_nanos a.at + max (as_nanos d.pace.tick) 1) (sym c.tried-then-is_err.ensures) (later (as_nanos c.args.now) (as_nanos d.pace.tick)))
           there) (sym c.if-not-has_room.false ∙ c.has_room.ensures) tt).does,
@@ -109,15 +109,15 @@ returns-then-is_err g c = let d = c.self.inside in
     (λ held. is_to_ask (as_nanos v.pace.tick) (as_nanos c.args.now) held ≡ true)) (sym c.self.view_is) c.requires.due in
     let due = subst (λ o. IsSomeAnd o (λ held. is_to_ask (as_nanos d.pace.tick) (as_nanos c.args.now) held ≡ true)) linked there in
     subst (λ v. AsksOne g.C.Ord.cmp (wire_in g) c.args.now false v
-    (seen d.node d.pace d.greeting (as_nanos d.cooldown) (as_nanos d.latest) d.next d.arrivals d.answers d.reads c.ask-then-is_err.new.self c.reserve.new.self.items))
-    c.self.view_is (asks_one g.C.Ord.cmp (wire_in g) d.node d.pace d.greeting (as_nanos d.cooldown) (as_nanos d.latest) d.next d.arrivals d.answers d.reads d.links d.actions.items g.met.C.PublicKey.exact
+    (seen d.node d.pace d.greeting (as_nanos d.cooldown) d.next_dial (as_nanos d.latest) d.next d.arrivals d.answers d.reads c.ask-then-is_err.new.self c.reserve.new.self.items))
+    c.self.view_is (asks_one g.C.Ord.cmp (wire_in g) d.node d.pace d.greeting (as_nanos d.cooldown) d.next_dial (as_nanos d.latest) d.next d.arrivals d.answers d.reads d.links d.actions.items g.met.C.PublicKey.exact
     c.in-Some.held.now.number c.args.peer.now c.in-Some.held.now c.args.now c.in-Some.held.now.owed true None false
     c.ask-then-is_err.new.self c.reserve.new.self.items
     (ap (λ (v : DriverView g.row.C.Denot g.row.C-Signature.Denot). v.latest) c.self.view_is ∙ c.requires.time)
     linked refl due refl tt refl
     (subst (λ (a : Asked). (q : g.row.C.Denot) → link_of g.C.Ord.cmp c.ask-then-is_err.new.self q ≡ (if is_at (g.C.Ord.cmp c.args.peer.now) q
     then option_map (asking c.in-Some.held.now.owed a) (link_of g.C.Ord.cmp d.links q) else link_of g.C.Ord.cmp d.links q)) c.tried-then-is_err.ensures c.ask-then-is_err.ensures.links)
-    c.ask-then-is_err.ensures.count (said_none d.actions.items c.reserve.new.self.items (search rules))
+    c.ask-then-is_err.ensures.counts (said_none d.actions.items c.reserve.new.self.items (search rules))
     (c.ask-then-is_err.ensures.fewer (as_nanos d.pace.tick) (as_nanos c.args.now)
     (subst (λ (a : Asked). as_nanos c.args.now < as_nanos a.at + max (as_nanos d.pace.tick) 1) (sym c.tried-then-is_err.ensures) (later (as_nanos c.args.now) (as_nanos d.pace.tick)))
     there) (sym c.if-not-has_room.false ∙ c.has_room.ensures) tt)
@@ -129,12 +129,12 @@ invariant_of-self-2 g c = let d = c.self.inside in
     (λ held. is_to_ask (as_nanos v.pace.tick) (as_nanos c.args.now) held ≡ true)) (sym c.self.view_is) c.requires.due in
     let due = subst (λ o. IsSomeAnd o (λ held. is_to_ask (as_nanos d.pace.tick) (as_nanos c.args.now) held ≡ true)) linked there in
     let asks = c.ask-2.ensures.asks in (
-      goes_on _ _ _ c.self.invariant.0 (asks_one g.C.Ord.cmp (wire_in g) d.node d.pace d.greeting (as_nanos d.cooldown) (as_nanos d.latest) d.next d.arrivals d.answers d.reads d.links d.actions.items g.met.C.PublicKey.exact
+      goes_on _ _ _ c.self.invariant.0 (asks_one g.C.Ord.cmp (wire_in g) d.node d.pace d.greeting (as_nanos d.cooldown) d.next_dial (as_nanos d.latest) d.next d.arrivals d.answers d.reads d.links d.actions.items g.met.C.PublicKey.exact
           c.in-Some.held.now.number c.args.peer.now c.in-Some.held.now c.args.now (owed_with asks.0 d.pace.owed c.in-Some.held.now.owed) true asks.0 c.ask-2.result
           c.ask-2.new.links c.ask-2.new.actions.items
           (ap (λ (v : DriverView g.row.C.Denot g.row.C-Signature.Denot). v.latest) c.self.view_is ∙ c.requires.time)
           linked refl due refl asks.2 (asked_or (is_some asks.0) ∙ asks.1) asks.4
-          c.ask-2.ensures.count (asks.5 ∙ ap (λ xs. xs ++ asking_on c.in-Some.held.now.number asks.0) (search rules))
+          c.ask-2.ensures.counts (asks.5 ∙ ap (λ xs. xs ++ asking_on c.in-Some.held.now.number asks.0) (search rules))
           (c.ask-2.ensures.fewer (as_nanos d.pace.tick) there) (sym c.if-not-has_room.false ∙ c.has_room.ensures) (always asks.0)).does,
       record {
         actions_fit = (let more = c.reserve.ensures.room in let used = c.ask-2.ensures.room in let needs = c.ask-2.ensures.needs in
@@ -151,11 +151,11 @@ returns g c = let d = c.self.inside in
     let due = subst (λ o. IsSomeAnd o (λ held. is_to_ask (as_nanos d.pace.tick) (as_nanos c.args.now) held ≡ true)) linked there in
     let asks = c.ask-2.ensures.asks in
     subst (λ v. AsksOne g.C.Ord.cmp (wire_in g) c.args.now c.ask-2.result v
-    (seen d.node d.pace d.greeting (as_nanos d.cooldown) (as_nanos d.latest) d.next d.arrivals d.answers d.reads c.ask-2.new.links c.ask-2.new.actions.items))
-    c.self.view_is (asks_one g.C.Ord.cmp (wire_in g) d.node d.pace d.greeting (as_nanos d.cooldown) (as_nanos d.latest) d.next d.arrivals d.answers d.reads d.links d.actions.items g.met.C.PublicKey.exact
+    (seen d.node d.pace d.greeting (as_nanos d.cooldown) d.next_dial (as_nanos d.latest) d.next d.arrivals d.answers d.reads c.ask-2.new.links c.ask-2.new.actions.items))
+    c.self.view_is (asks_one g.C.Ord.cmp (wire_in g) d.node d.pace d.greeting (as_nanos d.cooldown) d.next_dial (as_nanos d.latest) d.next d.arrivals d.answers d.reads d.links d.actions.items g.met.C.PublicKey.exact
     c.in-Some.held.now.number c.args.peer.now c.in-Some.held.now c.args.now (owed_with asks.0 d.pace.owed c.in-Some.held.now.owed) true asks.0 c.ask-2.result
     c.ask-2.new.links c.ask-2.new.actions.items
     (ap (λ (v : DriverView g.row.C.Denot g.row.C-Signature.Denot). v.latest) c.self.view_is ∙ c.requires.time)
     linked refl due refl asks.2 (asked_or (is_some asks.0) ∙ asks.1) asks.4
-    c.ask-2.ensures.count (asks.5 ∙ ap (λ xs. xs ++ asking_on c.in-Some.held.now.number asks.0) (search rules))
+    c.ask-2.ensures.counts (asks.5 ∙ ap (λ xs. xs ++ asking_on c.in-Some.held.now.number asks.0) (search rules))
     (c.ask-2.ensures.fewer (as_nanos d.pace.tick) there) (sym c.if-not-has_room.false ∙ c.has_room.ensures) (always asks.0))

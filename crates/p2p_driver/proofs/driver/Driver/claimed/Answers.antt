@@ -19,7 +19,7 @@ invariant_of-self g c =
     let none = none_of stream.claim (search rules) in (
       claim_leaves c.self.invariant.0 c.claim-closed.result
           (λ goes. let claimed = c.claim-closed.ensures.claimed goes in
-          claims_by c.self.inside.node c.self.inside.pace c.self.inside.greeting (as_nanos c.self.inside.cooldown)
+          claims_by c.self.inside.node c.self.inside.pace c.self.inside.greeting (as_nanos c.self.inside.cooldown) c.self.inside.next_dial
           (as_nanos c.self.inside.latest) c.self.inside.next c.self.inside.arrivals c.self.inside.answers c.self.inside.reads c.self.inside.links
           c.self.inside.actions.items n stream c.args.peer c.later-now.result c.may_come-may.result c.claim-closed.new.arrivals
           c.claim-closed.new.answers c.claim-closed.new.actions.items number found none c.may_come-may.ensures
@@ -30,7 +30,7 @@ invariant_of-self g c =
           IsClaimRefusal c.self.inside.pace (as_nanos c.later-now.result) stream.origin.0 claims c.may_come-may.result w
           × AreKept c.self.inside.pace (as_nanos c.later-now.result) claims c.claim-closed.new.answers))
           c.claim-closed.result w stops c.claim-closed.ensures.closed in
-          refuses_by c.self.inside.node c.self.inside.pace c.self.inside.greeting (as_nanos c.self.inside.cooldown)
+          refuses_by c.self.inside.node c.self.inside.pace c.self.inside.greeting (as_nanos c.self.inside.cooldown) c.self.inside.next_dial
           (as_nanos c.self.inside.latest) c.self.inside.next c.self.inside.arrivals c.self.inside.answers c.self.inside.reads c.self.inside.links
           c.self.inside.actions.items n stream c.args.peer c.later-now.result c.may_come-may.result w c.claim-closed.new.arrivals
           c.claim-closed.new.answers c.claim-closed.new.actions.items number found none c.may_come-may.ensures
@@ -52,7 +52,7 @@ returns g c =
     claim_answered (as_nanos c.args.now.steady) c.is_none.result c.self.view_is
     (ap may_claim found ∙ ap (λ claim. not (is_some claim)) none) c.later-now.ensures c.claim-closed.result (search rules)
     (λ goes. let claimed = c.claim-closed.ensures.claimed goes in
-    claims_by c.self.inside.node c.self.inside.pace c.self.inside.greeting (as_nanos c.self.inside.cooldown)
+    claims_by c.self.inside.node c.self.inside.pace c.self.inside.greeting (as_nanos c.self.inside.cooldown) c.self.inside.next_dial
     (as_nanos c.self.inside.latest) c.self.inside.next c.self.inside.arrivals c.self.inside.answers c.self.inside.reads c.self.inside.links
     c.self.inside.actions.items n stream c.args.peer c.later-now.result c.may_come-may.result c.claim-closed.new.arrivals
     c.claim-closed.new.answers c.claim-closed.new.actions.items number found none c.may_come-may.ensures
@@ -63,7 +63,7 @@ returns g c =
     IsClaimRefusal c.self.inside.pace (as_nanos c.later-now.result) stream.origin.0 claims c.may_come-may.result w
     × AreKept c.self.inside.pace (as_nanos c.later-now.result) claims c.claim-closed.new.answers))
     c.claim-closed.result w stops c.claim-closed.ensures.closed in
-    refuses_by c.self.inside.node c.self.inside.pace c.self.inside.greeting (as_nanos c.self.inside.cooldown)
+    refuses_by c.self.inside.node c.self.inside.pace c.self.inside.greeting (as_nanos c.self.inside.cooldown) c.self.inside.next_dial
     (as_nanos c.self.inside.latest) c.self.inside.next c.self.inside.arrivals c.self.inside.answers c.self.inside.reads c.self.inside.links
     c.self.inside.actions.items n stream c.args.peer c.later-now.result c.may_come-may.result w c.claim-closed.new.arrivals
     c.claim-closed.new.answers c.claim-closed.new.actions.items number found none c.may_come-may.ensures

@@ -29,7 +29,7 @@ close-requires-clause-there g c = let d = c.self.inside in
 
 pub invariant_of-self : goal.invariant_of-self
 invariant_of-self g c = let d = c.self.inside in (
-  goes_on _ _ _ c.self.invariant.0 (late_stream g.C.Ord.cmp (wire_in g) d.node d.pace d.greeting (as_nanos d.cooldown) (as_nanos d.latest) d.next d.arrivals d.answers d.reads d.links d.actions.items
+  goes_on _ _ _ c.self.invariant.0 (late_stream g.C.Ord.cmp (wire_in g) d.node d.pace d.greeting (as_nanos d.cooldown) d.next_dial (as_nanos d.latest) d.next d.arrivals d.answers d.reads d.links d.actions.items
       c.in-Some.number c.args.now c.close.new.arrivals c.close.new.answers c.close.new.actions.items
       (ap (λ (v : DriverView g.row.C.Denot g.row.C-Signature.Denot). v.latest) c.self.view_is ∙ c.requires)
       (late_found (λ a. nat_le (deadline_of (as_nanos d.pace.first) (as_nanos d.pace.handshake) a) (as_nanos c.args.now))
@@ -42,8 +42,8 @@ invariant_of-self g c = let d = c.self.inside in (
 pub returns-in-Some-clause-one : goal.returns-in-Some-clause-one
 returns-in-Some-clause-one g c is = let d = c.self.inside in
     subst (λ v. ClosesOne g.C.Ord.cmp (wire_in g) c.args.now v
-    (seen d.node d.pace d.greeting (as_nanos d.cooldown) (as_nanos d.latest) d.next c.close.new.arrivals c.close.new.answers d.reads d.links c.close.new.actions.items))
-    c.self.view_is (late_stream g.C.Ord.cmp (wire_in g) d.node d.pace d.greeting (as_nanos d.cooldown) (as_nanos d.latest) d.next d.arrivals d.answers d.reads d.links d.actions.items
+    (seen d.node d.pace d.greeting (as_nanos d.cooldown) d.next_dial (as_nanos d.latest) d.next c.close.new.arrivals c.close.new.answers d.reads d.links c.close.new.actions.items))
+    c.self.view_is (late_stream g.C.Ord.cmp (wire_in g) d.node d.pace d.greeting (as_nanos d.cooldown) d.next_dial (as_nanos d.latest) d.next d.arrivals d.answers d.reads d.links d.actions.items
     c.in-Some.number c.args.now c.close.new.arrivals c.close.new.answers c.close.new.actions.items
     (ap (λ (v : DriverView g.row.C.Denot g.row.C-Signature.Denot). v.latest) c.self.view_is ∙ c.requires)
     (late_found (λ a. nat_le (deadline_of (as_nanos d.pace.first) (as_nanos d.pace.handshake) a) (as_nanos c.args.now))
@@ -52,10 +52,10 @@ returns-in-Some-clause-one g c is = let d = c.self.inside in
 
 pub invariant_of-self-in-Some-late : goal.invariant_of-self-in-Some-late
 invariant_of-self-in-Some-late g c = let d = c.self.inside in (
-  goes_on _ _ _ c.self.invariant.0 (late_link g.C.Ord.cmp (wire_in g) d.node d.pace d.greeting (as_nanos d.cooldown) (as_nanos d.latest) d.next d.arrivals d.answers d.reads d.links d.actions.items
+  goes_on _ _ _ c.self.invariant.0 (late_link g.C.Ord.cmp (wire_in g) d.node d.pace d.greeting (as_nanos d.cooldown) d.next_dial (as_nanos d.latest) d.next d.arrivals d.answers d.reads d.links d.actions.items
       c.in-Some-late.peer c.args.now c.shut.new.links c.shut.new.actions.items
       (ap (λ (v : DriverView g.row.C.Denot g.row.C-Signature.Denot). v.latest) c.self.view_is ∙ c.requires)
-      c.in-Some-late.ensures.late c.shut.ensures.links c.shut.ensures.count
+      c.in-Some-late.ensures.late c.shut.ensures.links c.shut.ensures.counts
       (c.shut.ensures.said ∙ ap (λ w. d.actions.items ++ shut c.in-Some-late.peer w (link_of g.C.Ord.cmp d.links c.in-Some-late.peer)) c.why_late-why.ensures) c.shut.ensures.needs).does,
   room_stays d.arrivals d.answers d.links c.shut.new.links d.actions c.shut.new.actions c.self.invariant.1 c.shut.ensures.room,
 )
@@ -63,11 +63,11 @@ invariant_of-self-in-Some-late g c = let d = c.self.inside in (
 pub returns-in-Some-late-clause-one : goal.returns-in-Some-late-clause-one
 returns-in-Some-late-clause-one g c is = let d = c.self.inside in
     subst (λ v. ClosesOne g.C.Ord.cmp (wire_in g) c.args.now v
-    (seen d.node d.pace d.greeting (as_nanos d.cooldown) (as_nanos d.latest) d.next d.arrivals d.answers d.reads c.shut.new.links c.shut.new.actions.items))
-    c.self.view_is (late_link g.C.Ord.cmp (wire_in g) d.node d.pace d.greeting (as_nanos d.cooldown) (as_nanos d.latest) d.next d.arrivals d.answers d.reads d.links d.actions.items
+    (seen d.node d.pace d.greeting (as_nanos d.cooldown) d.next_dial (as_nanos d.latest) d.next d.arrivals d.answers d.reads c.shut.new.links c.shut.new.actions.items))
+    c.self.view_is (late_link g.C.Ord.cmp (wire_in g) d.node d.pace d.greeting (as_nanos d.cooldown) d.next_dial (as_nanos d.latest) d.next d.arrivals d.answers d.reads d.links d.actions.items
     c.in-Some-late.peer c.args.now c.shut.new.links c.shut.new.actions.items
     (ap (λ (v : DriverView g.row.C.Denot g.row.C-Signature.Denot). v.latest) c.self.view_is ∙ c.requires)
-    c.in-Some-late.ensures.late c.shut.ensures.links c.shut.ensures.count
+    c.in-Some-late.ensures.late c.shut.ensures.links c.shut.ensures.counts
     (c.shut.ensures.said ∙ ap (λ w. d.actions.items ++ shut c.in-Some-late.peer w (link_of g.C.Ord.cmp d.links c.in-Some-late.peer)) c.why_late-why.ensures) c.shut.ensures.needs)
 
 pub returns-clause-none : goal.returns-clause-none
@@ -101,5 +101,5 @@ returns-in-Some-clause-late g c is none = let d = c.self.inside in
 pub returns-in-Some-late-clause-late : goal.returns-in-Some-late-clause-late
 returns-in-Some-late-clause-late g c is none = let d = c.self.inside in
     let seen = subst (NoneLate g.C.Ord.cmp (as_nanos c.args.now)) (sym c.self.view_is) none in
-    link_late (link_of g.C.Ord.cmp d.links c.in-Some-late.peer) (is_late (as_nanos d.pace.greeting) (as_nanos d.pace.silence) (as_nanos c.args.now))
+    link_late (link_of g.C.Ord.cmp d.links c.in-Some-late.peer) (is_late d.pace (as_nanos c.args.now))
     c.in-Some-late.ensures.late (λ h at. seen.links c.in-Some-late.peer h at)

@@ -51,34 +51,34 @@ returns-then-verdicts-waiting g c =
 pub judge-judged-requires-clause-waits : goal.judge-judged-requires-clause-waits
 judge-judged-requires-clause-waits g c =
     let linked = sym c.get.ensures ∙ ap (option_map (λ h. h.now)) c.in-Some-get.is in
-    (waits_seen g.C.Ord.cmp (wire_in g) g.met.C.PublicKey.exact (seen c.self.inside.node c.self.inside.pace c.self.inside.greeting (as_nanos c.self.inside.cooldown) (as_nanos c.self.inside.latest)
+    (waits_seen g.C.Ord.cmp (wire_in g) g.met.C.PublicKey.exact (seen c.self.inside.node c.self.inside.pace c.self.inside.greeting (as_nanos c.self.inside.cooldown) c.self.inside.next_dial (as_nanos c.self.inside.latest)
     c.self.inside.next c.self.inside.arrivals c.self.inside.answers c.self.inside.reads c.self.inside.links c.self.inside.actions.items) c.self.invariant.0 c.in-Some.peer c.in-Some-get.held.now linked c.in-Some-waiting.waiting c.in-Some-waiting.is)
 
 pub greet-requires-clause-may : goal.greet-requires-clause-may
 greet-requires-clause-may g c =
     let linked = sym c.get.ensures ∙ ap (option_map (λ h. h.now)) c.in-Some-get.is in
-    may_greet g.C.Ord.cmp (wire_in g) g.met.C.PublicKey.exact (seen c.self.inside.node c.self.inside.pace c.self.inside.greeting (as_nanos c.self.inside.cooldown) (as_nanos c.self.inside.latest)
+    may_greet g.C.Ord.cmp (wire_in g) g.met.C.PublicKey.exact (seen c.self.inside.node c.self.inside.pace c.self.inside.greeting (as_nanos c.self.inside.cooldown) c.self.inside.next_dial (as_nanos c.self.inside.latest)
     c.self.inside.next c.self.inside.arrivals c.self.inside.answers c.self.inside.reads c.self.inside.links c.self.inside.actions.items) c.self.invariant.0 c.in-Some.peer c.in-Some-get.held.now linked
     c.self.inside.node c.judge-judged.new.node c.in-Greeted.ensures.0 refl
     (greeting_phase g.C.Ord.cmp (wire_in g) c.self.inside.node.limits
-    (judge_of g.C.Ord.cmp g.C.PublicKey.verifies c.self.inside.node.verifier) c.in-Some-get.held.now.phase c.in-Some.peer c.in-Some-waiting.waiting c.in-Greeted.ensures.0 (waits_seen g.C.Ord.cmp (wire_in g) g.met.C.PublicKey.exact (seen c.self.inside.node c.self.inside.pace c.self.inside.greeting (as_nanos c.self.inside.cooldown) (as_nanos c.self.inside.latest)
-    c.self.inside.next c.self.inside.arrivals c.self.inside.answers c.self.inside.reads c.self.inside.links c.self.inside.actions.items) c.self.invariant.0 c.in-Some.peer c.in-Some-get.held.now linked c.in-Some-waiting.waiting c.in-Some-waiting.is) (c.in-Greeted.ensures.1 None).0)
+    (judge_of g.C.Ord.cmp g.C.PublicKey.verifies c.self.inside.node.verifier) c.in-Some-get.held.now.phase c.in-Some.peer c.in-Some-waiting.waiting c.in-Greeted.ensures.0 (waits_seen g.C.Ord.cmp (wire_in g) g.met.C.PublicKey.exact (seen c.self.inside.node c.self.inside.pace c.self.inside.greeting (as_nanos c.self.inside.cooldown) c.self.inside.next_dial (as_nanos c.self.inside.latest)
+    c.self.inside.next c.self.inside.arrivals c.self.inside.answers c.self.inside.reads c.self.inside.links c.self.inside.actions.items) c.self.invariant.0 c.in-Some.peer c.in-Some-get.held.now linked c.in-Some-waiting.waiting c.in-Some-waiting.is) (c.in-Greeted.ensures.1 c.is_dialer-dialer.result None).0)
     c.in-Greeted.ensures.2
 
 pub invariant_of-self-in-Greeted : goal.invariant_of-self-in-Greeted
 invariant_of-self-in-Greeted g c =
     let linked = sym c.get.ensures ∙ ap (option_map (λ h. h.now)) c.in-Some-get.is in
     let greets = c.greet.ensures.greets c.in-Greeted.ensures.0 in (
-      goes_on (Happening.Heard c.args.link.0 c.in-Some.peer c.later-time.result (owed_after phase.Greeting (Outcome.Greets c.in-Greeted.ensures.0 greets.0) c.self.inside.pace.owed c.in-Some-get.held.now.owed) (OfVerdicts c.args.verdicts.now) (Outcome.Greets c.in-Greeted.ensures.0 greets.0)) _ _ c.self.invariant.0
-          (greets_by g.C.Ord.cmp (wire_in g) c.self.inside.node c.self.inside.pace c.self.inside.greeting (as_nanos c.self.inside.cooldown) (as_nanos c.self.inside.latest)
+      goes_on (Happening.Heard c.args.link.0 c.in-Some.peer c.later-time.result (owed_after phase.Greeting (Outcome.Greets c.is_dialer-dialer.result c.in-Greeted.ensures.0 greets.0) c.self.inside.pace.owed c.in-Some-get.held.now.owed) (OfVerdicts c.args.verdicts.now) (Outcome.Greets c.is_dialer-dialer.result c.in-Greeted.ensures.0 greets.0)) _ _ c.self.invariant.0
+          (greets_by g.C.Ord.cmp (wire_in g) c.self.inside.node c.self.inside.pace c.self.inside.greeting (as_nanos c.self.inside.cooldown) c.self.inside.next_dial (as_nanos c.self.inside.latest)
           c.self.inside.next c.self.inside.arrivals c.self.inside.answers c.self.inside.reads c.self.inside.links c.self.inside.actions.items
           c.args.link.0 c.in-Some.peer c.in-Some-get.held.now c.in-Some-waiting.waiting c.args.verdicts.now c.later-time.result (no_earlier _ _ _ c.later-time.ensures)
           linked (linked_as g.C.Ord.cmp c.self.inside.links c.in-Some.peer c.in-Some-get.held.now c.args.link.0 linked c.in-Some.ensures.found) c.in-Some-waiting.is
-          (waits_seen g.C.Ord.cmp (wire_in g) g.met.C.PublicKey.exact (seen c.self.inside.node c.self.inside.pace c.self.inside.greeting (as_nanos c.self.inside.cooldown) (as_nanos c.self.inside.latest)
+          (waits_seen g.C.Ord.cmp (wire_in g) g.met.C.PublicKey.exact (seen c.self.inside.node c.self.inside.pace c.self.inside.greeting (as_nanos c.self.inside.cooldown) c.self.inside.next_dial (as_nanos c.self.inside.latest)
           c.self.inside.next c.self.inside.arrivals c.self.inside.answers c.self.inside.reads c.self.inside.links c.self.inside.actions.items) c.self.invariant.0 c.in-Some.peer c.in-Some-get.held.now linked c.in-Some-waiting.waiting c.in-Some-waiting.is)
           (search rules)
-          c.in-Greeted.ensures.0 greets.0 c.judge-judged.new.node c.greet.new.node c.greet.new.links c.greet.new.actions.items
-          (c.in-Greeted.ensures.1 greets.0) c.in-Greeted.ensures.2 c.greet.ensures.made greets.1 greets.2 (follows_from (search rules) greets.3)),
+          c.is_dialer-dialer.result c.in-Greeted.ensures.0 greets.0 c.judge-judged.new.node c.greet.new.node _ c.greet.new.links c.greet.new.actions.items (refl, refl) c.is_dialer-dialer.ensures
+          (c.in-Greeted.ensures.1 c.is_dialer-dialer.result greets.0) c.in-Greeted.ensures.2 c.greet.ensures.made greets.1 greets.2 (follows_from (search rules) greets.3)),
       record {
         actions_fit = (let f0 = c.reserve.ensures.room in let f1 = c.greet.ensures.room in let fits = c.self.invariant.1.actions_fit in grind (arith));
         answers_fit = c.self.invariant.1.answers_fit;
@@ -89,31 +89,31 @@ pub returns-in-Greeted : goal.returns-in-Greeted
 returns-in-Greeted g c =
     let linked = sym c.get.ensures ∙ ap (option_map (λ h. h.now)) c.in-Some-get.is in
     let greets = c.greet.ensures.greets c.in-Greeted.ensures.0 in
-    heard_of g.C.Ord.cmp (wire_in g) c.self.view_is c.args.link.0 c.in-Some.peer c.later-time.result (owed_after phase.Greeting (Outcome.Greets c.in-Greeted.ensures.0 greets.0) c.self.inside.pace.owed c.in-Some-get.held.now.owed) (as_nanos c.args.now.steady)
-    (OfVerdicts c.args.verdicts.now) (Outcome.Greets c.in-Greeted.ensures.0 greets.0) (λ o. IsReturned [] o (heard.Greeted)) c.later-time.ensures refl
-    (greets_by g.C.Ord.cmp (wire_in g) c.self.inside.node c.self.inside.pace c.self.inside.greeting (as_nanos c.self.inside.cooldown) (as_nanos c.self.inside.latest)
+    heard_of g.C.Ord.cmp (wire_in g) c.self.view_is c.args.link.0 c.in-Some.peer c.later-time.result (owed_after phase.Greeting (Outcome.Greets c.is_dialer-dialer.result c.in-Greeted.ensures.0 greets.0) c.self.inside.pace.owed c.in-Some-get.held.now.owed) (as_nanos c.args.now.steady)
+    (OfVerdicts c.args.verdicts.now) (Outcome.Greets c.is_dialer-dialer.result c.in-Greeted.ensures.0 greets.0) (λ o. IsReturned [] o (heard.Greeted)) c.later-time.ensures refl
+    (greets_by g.C.Ord.cmp (wire_in g) c.self.inside.node c.self.inside.pace c.self.inside.greeting (as_nanos c.self.inside.cooldown) c.self.inside.next_dial (as_nanos c.self.inside.latest)
     c.self.inside.next c.self.inside.arrivals c.self.inside.answers c.self.inside.reads c.self.inside.links c.self.inside.actions.items
     c.args.link.0 c.in-Some.peer c.in-Some-get.held.now c.in-Some-waiting.waiting c.args.verdicts.now c.later-time.result (no_earlier _ _ _ c.later-time.ensures)
     linked (linked_as g.C.Ord.cmp c.self.inside.links c.in-Some.peer c.in-Some-get.held.now c.args.link.0 linked c.in-Some.ensures.found) c.in-Some-waiting.is
-    (waits_seen g.C.Ord.cmp (wire_in g) g.met.C.PublicKey.exact (seen c.self.inside.node c.self.inside.pace c.self.inside.greeting (as_nanos c.self.inside.cooldown) (as_nanos c.self.inside.latest)
+    (waits_seen g.C.Ord.cmp (wire_in g) g.met.C.PublicKey.exact (seen c.self.inside.node c.self.inside.pace c.self.inside.greeting (as_nanos c.self.inside.cooldown) c.self.inside.next_dial (as_nanos c.self.inside.latest)
     c.self.inside.next c.self.inside.arrivals c.self.inside.answers c.self.inside.reads c.self.inside.links c.self.inside.actions.items) c.self.invariant.0 c.in-Some.peer c.in-Some-get.held.now linked c.in-Some-waiting.waiting c.in-Some-waiting.is)
     (search rules)
-    c.in-Greeted.ensures.0 greets.0 c.judge-judged.new.node c.greet.new.node c.greet.new.links c.greet.new.actions.items
-    (c.in-Greeted.ensures.1 greets.0) c.in-Greeted.ensures.2 c.greet.ensures.made greets.1 greets.2 (follows_from (search rules) greets.3))
+    c.is_dialer-dialer.result c.in-Greeted.ensures.0 greets.0 c.judge-judged.new.node c.greet.new.node _ c.greet.new.links c.greet.new.actions.items (refl, refl) c.is_dialer-dialer.ensures
+    (c.in-Greeted.ensures.1 c.is_dialer-dialer.result greets.0) c.in-Greeted.ensures.2 c.greet.ensures.made greets.1 greets.2 (follows_from (search rules) greets.3))
 
 pub invariant_of-self-in-Applied : goal.invariant_of-self-in-Applied
 invariant_of-self-in-Applied g c =
     let linked = sym c.get.ensures ∙ ap (option_map (λ h. h.now)) c.in-Some-get.is in (
       goes_on (Happening.Heard c.args.link.0 c.in-Some.peer c.later-time.result c.in-Some-get.held.now.owed (OfVerdicts c.args.verdicts.now) (Outcome.Takes c.in-Applied.ensures.0)) _ _ c.self.invariant.0
-          (takes_by g.C.Ord.cmp (wire_in g) c.self.inside.node c.self.inside.pace c.self.inside.greeting (as_nanos c.self.inside.cooldown) (as_nanos c.self.inside.latest)
+          (takes_by g.C.Ord.cmp (wire_in g) c.self.inside.node c.self.inside.pace c.self.inside.greeting (as_nanos c.self.inside.cooldown) c.self.inside.next_dial (as_nanos c.self.inside.latest)
           c.self.inside.next c.self.inside.arrivals c.self.inside.answers c.self.inside.reads c.self.inside.links c.self.inside.actions.items
           c.args.link.0 c.in-Some.peer c.in-Some-get.held.now c.in-Some-waiting.waiting c.args.verdicts.now c.later-time.result (no_earlier _ _ _ c.later-time.ensures)
           linked (linked_as g.C.Ord.cmp c.self.inside.links c.in-Some.peer c.in-Some-get.held.now c.args.link.0 linked c.in-Some.ensures.found) c.in-Some-waiting.is
-          (waits_seen g.C.Ord.cmp (wire_in g) g.met.C.PublicKey.exact (seen c.self.inside.node c.self.inside.pace c.self.inside.greeting (as_nanos c.self.inside.cooldown) (as_nanos c.self.inside.latest)
+          (waits_seen g.C.Ord.cmp (wire_in g) g.met.C.PublicKey.exact (seen c.self.inside.node c.self.inside.pace c.self.inside.greeting (as_nanos c.self.inside.cooldown) c.self.inside.next_dial (as_nanos c.self.inside.latest)
           c.self.inside.next c.self.inside.arrivals c.self.inside.answers c.self.inside.reads c.self.inside.links c.self.inside.actions.items) c.self.invariant.0 c.in-Some.peer c.in-Some-get.held.now linked c.in-Some-waiting.waiting c.in-Some-waiting.is)
           (search rules)
-          c.in-Applied.ensures.0 c.judge-judged.new.node c.hear.new.self c.give_back-in-Applied.new.self.items c.in-Applied.ensures.2 c.in-Applied.ensures.3
-          c.hear.ensures.links c.hear.ensures.count (search rules)),
+          c.in-Applied.ensures.0 c.judge-judged.new.node _ c.hear.new.self c.give_back-in-Applied.new.self.items (refl, refl) c.in-Applied.ensures.2 c.in-Applied.ensures.3
+          c.hear.ensures.links c.hear.ensures.counts (search rules)),
       record {
         actions_fit = (let f0 = c.reserve.ensures.room in let f1 = c.give_back-in-Applied.ensures.room in let f2 = c.hear.ensures.needs in let fits = c.self.invariant.1.actions_fit in grind (arith));
         answers_fit = c.self.invariant.1.answers_fit;
@@ -125,25 +125,25 @@ returns-in-Applied g c =
     let linked = sym c.get.ensures ∙ ap (option_map (λ h. h.now)) c.in-Some-get.is in
     heard_of g.C.Ord.cmp (wire_in g) c.self.view_is c.args.link.0 c.in-Some.peer c.later-time.result (c.in-Some-get.held.now.owed) (as_nanos c.args.now.steady)
     (OfVerdicts c.args.verdicts.now) (Outcome.Takes c.in-Applied.ensures.0) (λ o. IsReturned [] o (heard.Applied c.in-Applied.count)) c.later-time.ensures (ap heard.Applied c.in-Applied.ensures.1)
-    (takes_by g.C.Ord.cmp (wire_in g) c.self.inside.node c.self.inside.pace c.self.inside.greeting (as_nanos c.self.inside.cooldown) (as_nanos c.self.inside.latest)
+    (takes_by g.C.Ord.cmp (wire_in g) c.self.inside.node c.self.inside.pace c.self.inside.greeting (as_nanos c.self.inside.cooldown) c.self.inside.next_dial (as_nanos c.self.inside.latest)
     c.self.inside.next c.self.inside.arrivals c.self.inside.answers c.self.inside.reads c.self.inside.links c.self.inside.actions.items
     c.args.link.0 c.in-Some.peer c.in-Some-get.held.now c.in-Some-waiting.waiting c.args.verdicts.now c.later-time.result (no_earlier _ _ _ c.later-time.ensures)
     linked (linked_as g.C.Ord.cmp c.self.inside.links c.in-Some.peer c.in-Some-get.held.now c.args.link.0 linked c.in-Some.ensures.found) c.in-Some-waiting.is
-    (waits_seen g.C.Ord.cmp (wire_in g) g.met.C.PublicKey.exact (seen c.self.inside.node c.self.inside.pace c.self.inside.greeting (as_nanos c.self.inside.cooldown) (as_nanos c.self.inside.latest)
+    (waits_seen g.C.Ord.cmp (wire_in g) g.met.C.PublicKey.exact (seen c.self.inside.node c.self.inside.pace c.self.inside.greeting (as_nanos c.self.inside.cooldown) c.self.inside.next_dial (as_nanos c.self.inside.latest)
     c.self.inside.next c.self.inside.arrivals c.self.inside.answers c.self.inside.reads c.self.inside.links c.self.inside.actions.items) c.self.invariant.0 c.in-Some.peer c.in-Some-get.held.now linked c.in-Some-waiting.waiting c.in-Some-waiting.is)
     (search rules)
-    c.in-Applied.ensures.0 c.judge-judged.new.node c.hear.new.self c.give_back-in-Applied.new.self.items c.in-Applied.ensures.2 c.in-Applied.ensures.3
-    c.hear.ensures.links c.hear.ensures.count (search rules))
+    c.in-Applied.ensures.0 c.judge-judged.new.node _ c.hear.new.self c.give_back-in-Applied.new.self.items (refl, refl) c.in-Applied.ensures.2 c.in-Applied.ensures.3
+    c.hear.ensures.links c.hear.ensures.counts (search rules))
 
 pub invariant_of-self-then-is_early : goal.invariant_of-self-then-is_early
 invariant_of-self-then-is_early g c =
     let linked = sym c.get.ensures ∙ ap (option_map (λ h. h.now)) c.in-Some-get.is in (
       goes_on (Happening.Heard c.args.link.0 c.in-Some.peer c.later-time.result c.in-Some-get.held.now.owed (OfVerdicts c.args.verdicts.now) (Outcome.IsEarly)) _ _ c.self.invariant.0
-          (early_by g.C.Ord.cmp (wire_in g) c.self.inside.node c.self.inside.pace c.self.inside.greeting (as_nanos c.self.inside.cooldown) (as_nanos c.self.inside.latest)
+          (early_by g.C.Ord.cmp (wire_in g) c.self.inside.node c.self.inside.pace c.self.inside.greeting (as_nanos c.self.inside.cooldown) c.self.inside.next_dial (as_nanos c.self.inside.latest)
           c.self.inside.next c.self.inside.arrivals c.self.inside.answers c.self.inside.reads c.self.inside.links c.self.inside.actions.items
           c.args.link.0 c.in-Some.peer c.in-Some-get.held.now c.in-Some-waiting.waiting c.args.verdicts.now c.later-time.result (no_earlier _ _ _ c.later-time.ensures)
           linked (linked_as g.C.Ord.cmp c.self.inside.links c.in-Some.peer c.in-Some-get.held.now c.args.link.0 linked c.in-Some.ensures.found) c.in-Some-waiting.is
-          (waits_seen g.C.Ord.cmp (wire_in g) g.met.C.PublicKey.exact (seen c.self.inside.node c.self.inside.pace c.self.inside.greeting (as_nanos c.self.inside.cooldown) (as_nanos c.self.inside.latest)
+          (waits_seen g.C.Ord.cmp (wire_in g) g.met.C.PublicKey.exact (seen c.self.inside.node c.self.inside.pace c.self.inside.greeting (as_nanos c.self.inside.cooldown) c.self.inside.next_dial (as_nanos c.self.inside.latest)
           c.self.inside.next c.self.inside.arrivals c.self.inside.answers c.self.inside.reads c.self.inside.links c.self.inside.actions.items) c.self.invariant.0 c.in-Some.peer c.in-Some-get.held.now linked c.in-Some-waiting.waiting c.in-Some-waiting.is)
           (search rules)
           c.in-Refused.error c.judge-judged.new.node c.shut_early.new.links c.shut_early.new.actions.items (c.in-Refused.ensures.1, c.in-Refused.ensures.2, c.in-Refused.ensures.3)
@@ -160,11 +160,11 @@ returns-in-Refused g c =
     let linked = sym c.get.ensures ∙ ap (option_map (λ h. h.now)) c.in-Some-get.is in
     heard_of g.C.Ord.cmp (wire_in g) c.self.view_is c.args.link.0 c.in-Some.peer c.later-time.result (c.in-Some-get.held.now.owed) (as_nanos c.args.now.steady)
     (OfVerdicts c.args.verdicts.now) (Outcome.IsEarly) (λ o. IsReturned [] o (heard.Closing why.Future)) c.later-time.ensures refl
-    (early_by g.C.Ord.cmp (wire_in g) c.self.inside.node c.self.inside.pace c.self.inside.greeting (as_nanos c.self.inside.cooldown) (as_nanos c.self.inside.latest)
+    (early_by g.C.Ord.cmp (wire_in g) c.self.inside.node c.self.inside.pace c.self.inside.greeting (as_nanos c.self.inside.cooldown) c.self.inside.next_dial (as_nanos c.self.inside.latest)
     c.self.inside.next c.self.inside.arrivals c.self.inside.answers c.self.inside.reads c.self.inside.links c.self.inside.actions.items
     c.args.link.0 c.in-Some.peer c.in-Some-get.held.now c.in-Some-waiting.waiting c.args.verdicts.now c.later-time.result (no_earlier _ _ _ c.later-time.ensures)
     linked (linked_as g.C.Ord.cmp c.self.inside.links c.in-Some.peer c.in-Some-get.held.now c.args.link.0 linked c.in-Some.ensures.found) c.in-Some-waiting.is
-    (waits_seen g.C.Ord.cmp (wire_in g) g.met.C.PublicKey.exact (seen c.self.inside.node c.self.inside.pace c.self.inside.greeting (as_nanos c.self.inside.cooldown) (as_nanos c.self.inside.latest)
+    (waits_seen g.C.Ord.cmp (wire_in g) g.met.C.PublicKey.exact (seen c.self.inside.node c.self.inside.pace c.self.inside.greeting (as_nanos c.self.inside.cooldown) c.self.inside.next_dial (as_nanos c.self.inside.latest)
     c.self.inside.next c.self.inside.arrivals c.self.inside.answers c.self.inside.reads c.self.inside.links c.self.inside.actions.items) c.self.invariant.0 c.in-Some.peer c.in-Some-get.held.now linked c.in-Some-waiting.waiting c.in-Some-waiting.is)
     (search rules)
     c.in-Refused.error c.judge-judged.new.node c.shut_early.new.links c.shut_early.new.actions.items (c.in-Refused.ensures.1, c.in-Refused.ensures.2, c.in-Refused.ensures.3)
@@ -175,14 +175,14 @@ pub invariant_of-self-in-Refused-2 : goal.invariant_of-self-in-Refused-2
 invariant_of-self-in-Refused-2 g c =
     let linked = sym c.get.ensures ∙ ap (option_map (λ h. h.now)) c.in-Some-get.is in (
       goes_on (Happening.Heard c.args.link.0 c.in-Some.peer c.later-time.result c.in-Some-get.held.now.owed (OfVerdicts c.args.verdicts.now) (Outcome.Breaks (breach.Invalid c.in-Refused-2.error) c.break_off.result)) _ _ c.self.invariant.0
-          (refuses_by g.C.Ord.cmp (wire_in g) c.self.inside.node c.self.inside.pace c.self.inside.greeting (as_nanos c.self.inside.cooldown) (as_nanos c.self.inside.latest)
+          (refuses_by g.C.Ord.cmp (wire_in g) c.self.inside.node c.self.inside.pace c.self.inside.greeting (as_nanos c.self.inside.cooldown) c.self.inside.next_dial (as_nanos c.self.inside.latest)
           c.self.inside.next c.self.inside.arrivals c.self.inside.answers c.self.inside.reads c.self.inside.links c.self.inside.actions.items
           c.args.link.0 c.in-Some.peer c.in-Some-get.held.now c.in-Some-waiting.waiting c.args.verdicts.now c.later-time.result (no_earlier _ _ _ c.later-time.ensures)
           linked (linked_as g.C.Ord.cmp c.self.inside.links c.in-Some.peer c.in-Some-get.held.now c.args.link.0 linked c.in-Some.ensures.found) c.in-Some-waiting.is
-          (waits_seen g.C.Ord.cmp (wire_in g) g.met.C.PublicKey.exact (seen c.self.inside.node c.self.inside.pace c.self.inside.greeting (as_nanos c.self.inside.cooldown) (as_nanos c.self.inside.latest)
+          (waits_seen g.C.Ord.cmp (wire_in g) g.met.C.PublicKey.exact (seen c.self.inside.node c.self.inside.pace c.self.inside.greeting (as_nanos c.self.inside.cooldown) c.self.inside.next_dial (as_nanos c.self.inside.latest)
           c.self.inside.next c.self.inside.arrivals c.self.inside.answers c.self.inside.reads c.self.inside.links c.self.inside.actions.items) c.self.invariant.0 c.in-Some.peer c.in-Some-get.held.now linked c.in-Some-waiting.waiting c.in-Some-waiting.is)
           (search rules)
-          c.in-Refused-2.error c.break_off.result c.judge-judged.new.node c.break_off.new.node c.break_off.new.links c.break_off.new.actions.items
+          c.in-Refused-2.error c.break_off.result c.judge-judged.new.node c.break_off.new.node _ c.break_off.new.links c.break_off.new.actions.items (refl, refl)
           (c.in-Refused-2.ensures.1, c.in-Refused-2.ensures.2, c.in-Refused-2.ensures.3)
           (ap is_early (refused_is c.in-Refused-2.error c.in-Refused.error (sym c.in-Refused-2.is ∙ c.in-Refused.is)) ∙ sym c.is_early.ensures ∙ c.if-is_early.false) c.in-Refused-2.ensures.0
           c.break_off.ensures.made c.break_off.ensures.taken
@@ -198,14 +198,14 @@ returns-in-Refused-2 g c =
     let linked = sym c.get.ensures ∙ ap (option_map (λ h. h.now)) c.in-Some-get.is in
     heard_of g.C.Ord.cmp (wire_in g) c.self.view_is c.args.link.0 c.in-Some.peer c.later-time.result (c.in-Some-get.held.now.owed) (as_nanos c.args.now.steady)
     (OfVerdicts c.args.verdicts.now) (Outcome.Breaks (breach.Invalid c.in-Refused-2.error) c.break_off.result) (λ o. IsReturned [] o (heard.Closing (why.Breach (breach.Invalid c.in-Refused-2.error)))) c.later-time.ensures refl
-    (refuses_by g.C.Ord.cmp (wire_in g) c.self.inside.node c.self.inside.pace c.self.inside.greeting (as_nanos c.self.inside.cooldown) (as_nanos c.self.inside.latest)
+    (refuses_by g.C.Ord.cmp (wire_in g) c.self.inside.node c.self.inside.pace c.self.inside.greeting (as_nanos c.self.inside.cooldown) c.self.inside.next_dial (as_nanos c.self.inside.latest)
     c.self.inside.next c.self.inside.arrivals c.self.inside.answers c.self.inside.reads c.self.inside.links c.self.inside.actions.items
     c.args.link.0 c.in-Some.peer c.in-Some-get.held.now c.in-Some-waiting.waiting c.args.verdicts.now c.later-time.result (no_earlier _ _ _ c.later-time.ensures)
     linked (linked_as g.C.Ord.cmp c.self.inside.links c.in-Some.peer c.in-Some-get.held.now c.args.link.0 linked c.in-Some.ensures.found) c.in-Some-waiting.is
-    (waits_seen g.C.Ord.cmp (wire_in g) g.met.C.PublicKey.exact (seen c.self.inside.node c.self.inside.pace c.self.inside.greeting (as_nanos c.self.inside.cooldown) (as_nanos c.self.inside.latest)
+    (waits_seen g.C.Ord.cmp (wire_in g) g.met.C.PublicKey.exact (seen c.self.inside.node c.self.inside.pace c.self.inside.greeting (as_nanos c.self.inside.cooldown) c.self.inside.next_dial (as_nanos c.self.inside.latest)
     c.self.inside.next c.self.inside.arrivals c.self.inside.answers c.self.inside.reads c.self.inside.links c.self.inside.actions.items) c.self.invariant.0 c.in-Some.peer c.in-Some-get.held.now linked c.in-Some-waiting.waiting c.in-Some-waiting.is)
     (search rules)
-    c.in-Refused-2.error c.break_off.result c.judge-judged.new.node c.break_off.new.node c.break_off.new.links c.break_off.new.actions.items
+    c.in-Refused-2.error c.break_off.result c.judge-judged.new.node c.break_off.new.node _ c.break_off.new.links c.break_off.new.actions.items (refl, refl)
     (c.in-Refused-2.ensures.1, c.in-Refused-2.ensures.2, c.in-Refused-2.ensures.3)
     (ap is_early (refused_is c.in-Refused-2.error c.in-Refused.error (sym c.in-Refused-2.is ∙ c.in-Refused.is)) ∙ sym c.is_early.ensures ∙ c.if-is_early.false) c.in-Refused-2.ensures.0
     c.break_off.ensures.made c.break_off.ensures.taken

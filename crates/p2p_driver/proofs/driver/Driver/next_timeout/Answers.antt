@@ -1,16 +1,18 @@
-use Rattle.std.proofs.Common.{◌∙◌, ap, subst, option_map}
+use Rattle.std.proofs.Common.{◌∙◌, ap, sym, subst, option_map}
 use Rattle.std.specs.Duration.{as_nanos}
 use Rattle.p2p_tracker.specs.Lists.{IsLeastOf}
 use Rattle.p2p_tracker.specs.Seen.{DirectoryView, unblock_of}
-use Rattle.p2p_driver.specs.Timers.{earlier, held_moment, IsNextTimeout}
+use Rattle.p2p_driver.specs.Drivers.{seen}
+use Rattle.p2p_driver.specs.Timers.{dial_due, earlier, held_moment, IsNextTimeout}
 use Rattle.p2p_driver.proofs.driver.Driver.next_timeout.Goals as goal
 
 pub returns : goal.returns
 returns g c =
+    let d = c.self.inside in
     let stream = c.next_late-stream.result in
     let link = c.next_due-link.result in
     let block = option_map as_nanos c.next_unblock-block.result in
-    subst (λ v. IsNextTimeout g.C.Ord.cmp v (option_map as_nanos c.earlier-3.result)) c.self.view_is (record {
+    subst (λ v. IsNextTimeout g.C.Ord.cmp v (option_map as_nanos c.earlier-4.result)) c.self.view_is (record {
       stream = stream;
       link = link;
       block = block;
@@ -20,9 +22,11 @@ returns g c =
       blocks = subst (λ (d : DirectoryView g.row.C.Denot g.row.C-Signature.Denot). IsLeastOf (unblock_of g.C.Ord.cmp d) block)
           c.directory.ensures c.next_unblock-block.ensures;
       cooldowns = c.next_cooled-cooldown.ensures;
-      next_is = c.earlier-3.ensures
+      next_is = c.earlier-4.ensures
+          ∙ ap (λ o. earlier o (option_map as_nanos c.earlier-3.result)) (c.moment.ensures ∙ ap held_moment (c.dial_due.ensures ∙ ap dial_due (sym c.self.view_is)))
+          ∙ ap (λ o. earlier (held_moment (dial_due (seen d.node d.pace d.greeting (as_nanos d.cooldown) d.next_dial (as_nanos d.latest) d.next d.arrivals d.answers d.reads d.links d.actions.items))) o) (c.earlier-3.ensures
           ∙ ap (λ o. earlier o (option_map as_nanos c.earlier-2.result)) (c.earlier.ensures
-          ∙ ap (λ o. earlier o (option_map as_nanos c.moment-2.result)) c.moment.ensures
-          ∙ ap (λ o. earlier (held_moment stream) o) c.moment-2.ensures)
-          ∙ ap (λ o. earlier (earlier (held_moment stream) (held_moment link)) o) c.earlier-2.ensures;
+          ∙ ap (λ o. earlier o (option_map as_nanos c.moment-3.result)) c.moment-2.ensures
+          ∙ ap (λ o. earlier (held_moment stream) o) c.moment-3.ensures)
+          ∙ ap (λ o. earlier (earlier (held_moment stream) (held_moment link)) o) c.earlier-2.ensures);
     })

@@ -16,11 +16,11 @@ wire_in g = wire_with g.C.PublicKey.verifies g.C.FixedBytes.spelled g.C.Signatur
 pub invariant_of-self : goal.invariant_of-self
 invariant_of-self g c = let d = c.self.inside in (
   goes_on (Happening.Parted c.args.peer.now c.later-self-inside.result) _ _ c.self.invariant.0
-      (parts g.C.Ord.cmp (wire_in g) d.node d.pace d.greeting (as_nanos d.cooldown) (as_nanos d.latest) d.next d.arrivals d.answers d.reads d.links d.actions.items
+      (parts g.C.Ord.cmp (wire_in g) d.node d.pace d.greeting (as_nanos d.cooldown) d.next_dial (as_nanos d.latest) d.next d.arrivals d.answers d.reads d.links d.actions.items
       c.args.peer.now c.later-self-inside.result c.shut.new.links c.shut.new.actions.items
       (there_is _ _ _ c.is_none.result c.get.ensures c.is_none.ensures c.if-is_none.false)
       (no_earlier (as_nanos d.latest) (as_nanos c.args.now.steady) (as_nanos c.later-self-inside.result) c.later-self-inside.ensures)
-      c.shut.ensures.links c.shut.ensures.count c.shut.ensures.said),
+      c.shut.ensures.links c.shut.ensures.counts c.shut.ensures.said),
   room_stays d.arrivals d.answers d.links c.shut.new.links d.actions c.shut.new.actions c.self.invariant.1 c.shut.ensures.room,
 )
 
@@ -28,8 +28,8 @@ pub returns : goal.returns
 returns g c = let d = c.self.inside in
     part_answered g.C.Ord.cmp (wire_in g) c.args.peer.now (as_nanos c.args.now.steady) _ _ _ c.self.view_is
     (there_is _ _ _ c.is_none.result c.get.ensures c.is_none.ensures c.if-is_none.false) c.later-self-inside.result c.later-self-inside.ensures
-    (parts g.C.Ord.cmp (wire_in g) d.node d.pace d.greeting (as_nanos d.cooldown) (as_nanos d.latest) d.next d.arrivals d.answers d.reads d.links d.actions.items
+    (parts g.C.Ord.cmp (wire_in g) d.node d.pace d.greeting (as_nanos d.cooldown) d.next_dial (as_nanos d.latest) d.next d.arrivals d.answers d.reads d.links d.actions.items
     c.args.peer.now c.later-self-inside.result c.shut.new.links c.shut.new.actions.items
     (there_is _ _ _ c.is_none.result c.get.ensures c.is_none.ensures c.if-is_none.false)
     (no_earlier (as_nanos d.latest) (as_nanos c.args.now.steady) (as_nanos c.later-self-inside.result) c.later-self-inside.ensures)
-    c.shut.ensures.links c.shut.ensures.count c.shut.ensures.said)
+    c.shut.ensures.links c.shut.ensures.counts c.shut.ensures.said)

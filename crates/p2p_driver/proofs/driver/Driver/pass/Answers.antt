@@ -16,7 +16,7 @@ wire_in g = wire_with g.C.PublicKey.verifies g.C.FixedBytes.spelled g.C.Signatur
 pub invariant_of-self : goal.invariant_of-self
 invariant_of-self g c = let d = c.self.inside in (
   goes_on (Happening.Passed c.args.now) _ _ c.self.invariant.0
-      (passes g.C.Ord.cmp (wire_in g) d.node d.pace d.greeting (as_nanos d.cooldown) (as_nanos d.latest) d.next d.arrivals d.answers d.reads d.links d.actions.items
+      (passes g.C.Ord.cmp (wire_in g) d.node d.pace d.greeting (as_nanos d.cooldown) d.next_dial (as_nanos d.latest) d.next d.arrivals d.answers d.reads d.links d.actions.items
       c.args.now c.pass.new.node
       (subst (λ (v : DriverView g.row.C.Denot g.row.C-Signature.Denot). v.latest ≤ as_nanos c.args.now) (sym c.self.view_is) c.requires)
       c.pass.ensures),
@@ -26,9 +26,9 @@ invariant_of-self g c = let d = c.self.inside in (
 pub returns-clause-did : goal.returns-clause-did
 returns-clause-did g c = let d = c.self.inside in
     subst (λ v. Does g.C.Ord.cmp (wire_in g) (Happening.Passed c.args.now) v
-    (seen c.pass.new.node d.pace d.greeting (as_nanos d.cooldown) (as_nanos c.args.now) d.next d.arrivals d.answers d.reads d.links d.actions.items))
+    (seen c.pass.new.node d.pace d.greeting (as_nanos d.cooldown) d.next_dial (as_nanos c.args.now) d.next d.arrivals d.answers d.reads d.links d.actions.items))
     c.self.view_is
-    (passes g.C.Ord.cmp (wire_in g) d.node d.pace d.greeting (as_nanos d.cooldown) (as_nanos d.latest) d.next d.arrivals d.answers d.reads d.links d.actions.items
+    (passes g.C.Ord.cmp (wire_in g) d.node d.pace d.greeting (as_nanos d.cooldown) d.next_dial (as_nanos d.latest) d.next d.arrivals d.answers d.reads d.links d.actions.items
     c.args.now c.pass.new.node
     (subst (λ (v : DriverView g.row.C.Denot g.row.C-Signature.Denot). v.latest ≤ as_nanos c.args.now) (sym c.self.view_is) c.requires)
     c.pass.ensures)

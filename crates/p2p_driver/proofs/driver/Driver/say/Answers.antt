@@ -1,14 +1,14 @@
-use Rattle.std.proofs.Common.{◌≡◌, ◌∙◌, ◌≤◌, ◌+◌, ◌<◌, ℕ, List, Option, Some, None, rules, refl, sym, ap, subst, arith}
+use Rattle.std.proofs.Common.{◌≡◌, ◌∙◌, ◌≤◌, ◌+◌, ◌<◌, ℕ, Option, Some, None, rules, refl, sym, ap, subst, arith}
 use Rattle.std.specs.Prelude.{option_map, length, slice_get, IfSome}
 use Rattle.std.specs.Duration.{as_nanos}
 use Rattle.std.specs.Option.{IsSomeAnd}
 use Rattle.std.specs.declared.time.Duration.{Duration}
 use Rattle.p2p_directory.specs.Received.{Wire}
-use Rattle.p2p_driver.specs.Drivers.{DriverView, DriverStands, HasRoom, Does, AnswersSay, seen, wire_with}
+use Rattle.p2p_driver.specs.Drivers.{DriverStands, HasRoom, Does, AnswersSay, seen, wire_with}
 use Rattle.p2p_driver.specs.Happenings.{Happening}
 use Rattle.p2p_driver.specs.Links.{has_room_at}
 use Rattle.p2p_driver.specs.Meters.{MetersView, MayTwice, IsEarly}
-use Rattle.p2p_driver.specs.Reading.{rate_at, said_at}
+use Rattle.p2p_driver.specs.Reading.{rate_at}
 use Rattle.p2p_driver.specs.Reads.{reads_of, kept_in, HasPlace}
 use Rattle.p2p_driver.specs.declared.rate.Rate.{Rate}
 use Rattle.p2p_driver.proofs.Driving.{goes_on, no_earlier}
@@ -31,7 +31,7 @@ rate_of-rate-requires g c = subst (λ cs. c.in_ok-place.place < length cs) c.as_
 pub invariant_of-self : goal.invariant_of-self
 invariant_of-self g c = let d = c.self.inside in
     let same = c.say.ensures.unchanged c.if-not-say.true in (
-      subst (λ ls. DriverStands g.C.Ord.cmp (wire_in g) (seen d.node d.pace d.greeting (as_nanos d.cooldown) (as_nanos d.latest) d.next d.arrivals d.answers d.reads ls d.actions.items))
+      subst (λ ls. DriverStands g.C.Ord.cmp (wire_in g) (seen d.node d.pace d.greeting (as_nanos d.cooldown) d.next_dial (as_nanos d.latest) d.next d.arrivals d.answers d.reads ls d.actions.items))
           (sym same) c.self.invariant.0,
       subst (λ ls. HasRoom d.arrivals d.answers ls d.actions) (sym same) c.self.invariant.1,
     )
@@ -57,15 +57,15 @@ invariant_of-self-2 g c = let d = c.self.inside in
     let behind : length items ≤ c.in_ok-said_at.said_at = (let is = at in omega (arith, is)) in
     let taken = the_one (λ m. HasPlace (Some c.in_ok-said_at.said_at) m × MayTwice c.rate_of-rate.result (as_nanos c.later-time.result) (kept_in (Some c.in_ok-said_at.said_at) m))
     (reads_of d.reads c.in_ok-held.held.now.number) (c.may_take_two.ensures c.if-not-may_take_two.false) in
-    let none = is_taken g.C.Ord.cmp (wire_in g) d.node d.pace d.greeting (as_nanos d.cooldown) (as_nanos d.latest) d.next d.arrivals d.answers d.reads d.links d.actions.items
+    let none = is_taken g.C.Ord.cmp (wire_in g) d.node d.pace d.greeting (as_nanos d.cooldown) d.next_dial (as_nanos d.latest) d.next d.arrivals d.answers d.reads d.links d.actions.items
     g.met.C.PublicKey.exact c.in_ok-held.held.now.number c.args.peer.now c.in_ok-held.held.now linked refl c.in_ok-said_at.said_at c.rate_of-rate.result rated
     c.later-time.result after c.self.invariant.0 c.take-taken.result taken.0 taken.1 (early_of c.rate_of-rate.result (as_nanos c.later-time.result) (Some c.in_ok-said_at.said_at)
     c.take-taken.result (reads_of d.reads c.in_ok-held.held.now.number) taken.0 taken.1 c.take-taken.ensures.early) taken.2.1 in
     let now = c.take-taken.ensures.read none taken.0 taken.1 in (
-      goes_on _ _ _ c.self.invariant.0 (let m = taken.0 in says_on g.C.Ord.cmp (wire_in g) d.node d.pace d.greeting (as_nanos d.cooldown) (as_nanos d.latest) d.next d.arrivals d.answers d.reads d.links d.actions.items g.met.C.PublicKey.exact
+      goes_on _ _ _ c.self.invariant.0 (let m = taken.0 in says_on g.C.Ord.cmp (wire_in g) d.node d.pace d.greeting (as_nanos d.cooldown) d.next_dial (as_nanos d.latest) d.next d.arrivals d.answers d.reads d.links d.actions.items g.met.C.PublicKey.exact
           c.in_ok-held.held.now.number c.args.peer.now c.in_ok-held.held.now linked refl c.in_ok-said_at.said_at c.rate_of-rate.result rated c.later-time.result after
           m now.0 c.take-taken.new.self c.say.new.links opens idle room behind taken.1 now.1 taken.2.1 now.2
-          (λ j differs. c.take-taken.ensures.others j differs) (c.say.ensures.links c.if-not-say.false) c.say.ensures.count),
+          (λ j differs. c.take-taken.ensures.others j differs) (c.say.ensures.links c.if-not-say.false) c.say.ensures.counts),
       record {
         actions_fit = (let same = c.say.ensures.needs in let fits = c.self.invariant.1.actions_fit in grind (arith));
         answers_fit = c.self.invariant.1.answers_fit;
@@ -86,14 +86,14 @@ returns g c = let d = c.self.inside in
     let behind : length items ≤ c.in_ok-said_at.said_at = (let is = at in omega (arith, is)) in
     let taken = the_one (λ m. HasPlace (Some c.in_ok-said_at.said_at) m × MayTwice c.rate_of-rate.result (as_nanos c.later-time.result) (kept_in (Some c.in_ok-said_at.said_at) m))
     (reads_of d.reads c.in_ok-held.held.now.number) (c.may_take_two.ensures c.if-not-may_take_two.false) in
-    let none = is_taken g.C.Ord.cmp (wire_in g) d.node d.pace d.greeting (as_nanos d.cooldown) (as_nanos d.latest) d.next d.arrivals d.answers d.reads d.links d.actions.items
+    let none = is_taken g.C.Ord.cmp (wire_in g) d.node d.pace d.greeting (as_nanos d.cooldown) d.next_dial (as_nanos d.latest) d.next d.arrivals d.answers d.reads d.links d.actions.items
     g.met.C.PublicKey.exact c.in_ok-held.held.now.number c.args.peer.now c.in_ok-held.held.now linked refl c.in_ok-said_at.said_at c.rate_of-rate.result rated
     c.later-time.result after c.self.invariant.0 c.take-taken.result taken.0 taken.1 (early_of c.rate_of-rate.result (as_nanos c.later-time.result) (Some c.in_ok-said_at.said_at)
     c.take-taken.result (reads_of d.reads c.in_ok-held.held.now.number) taken.0 taken.1 c.take-taken.ensures.early) taken.2.1 in
     let now = c.take-taken.ensures.read none taken.0 taken.1 in
     subst (λ v. AnswersSay g.C.Ord.cmp (wire_in g) c.args.peer.now c.args.channel c.args.size (as_nanos c.args.now.steady)
     (Some (c.in_ok-held.held.now.number, c.in_ok-data.data)) v
-    (seen d.node d.pace d.greeting (as_nanos d.cooldown) (as_nanos c.later-time.result) d.next d.arrivals d.answers c.take-taken.new.self c.say.new.links d.actions.items))
+    (seen d.node d.pace d.greeting (as_nanos d.cooldown) d.next_dial (as_nanos c.later-time.result) d.next d.arrivals d.answers c.take-taken.new.self c.say.new.links d.actions.items))
     c.self.view_is (
       c.in_ok-place.place,
       subst (λ cs. IsSomeAnd (slice_get cs c.in_ok-place.place) (λ x. (x.number ≡ c.args.channel) × (c.args.size ≤ x.longest))) c.as_slice.ensures.value c.in_ok-place.ensures.found,
@@ -103,11 +103,11 @@ returns g c = let d = c.self.inside in
         c.later-time.result,
         c.later-time.ensures,
         subst (λ k. Does g.C.Ord.cmp (wire_in g) (Happening.Spoken c.in_ok-held.held.now.number c.args.peer.now c.later-time.result k)
-            (seen d.node d.pace d.greeting (as_nanos d.cooldown) (as_nanos d.latest) d.next d.arrivals d.answers d.reads d.links d.actions.items)
-            (seen d.node d.pace d.greeting (as_nanos d.cooldown) (as_nanos c.later-time.result) d.next d.arrivals d.answers c.take-taken.new.self c.say.new.links d.actions.items))
-            at (let m = taken.0 in says_on g.C.Ord.cmp (wire_in g) d.node d.pace d.greeting (as_nanos d.cooldown) (as_nanos d.latest) d.next d.arrivals d.answers d.reads d.links d.actions.items g.met.C.PublicKey.exact
+            (seen d.node d.pace d.greeting (as_nanos d.cooldown) d.next_dial (as_nanos d.latest) d.next d.arrivals d.answers d.reads d.links d.actions.items)
+            (seen d.node d.pace d.greeting (as_nanos d.cooldown) d.next_dial (as_nanos c.later-time.result) d.next d.arrivals d.answers c.take-taken.new.self c.say.new.links d.actions.items))
+            at (let m = taken.0 in says_on g.C.Ord.cmp (wire_in g) d.node d.pace d.greeting (as_nanos d.cooldown) d.next_dial (as_nanos d.latest) d.next d.arrivals d.answers d.reads d.links d.actions.items g.met.C.PublicKey.exact
             c.in_ok-held.held.now.number c.args.peer.now c.in_ok-held.held.now linked refl c.in_ok-said_at.said_at c.rate_of-rate.result rated c.later-time.result after
             m now.0 c.take-taken.new.self c.say.new.links opens idle room behind taken.1 now.1 taken.2.1 now.2
-            (λ j differs. c.take-taken.ensures.others j differs) (c.say.ensures.links c.if-not-say.false) c.say.ensures.count),
+            (λ j differs. c.take-taken.ensures.others j differs) (c.say.ensures.links c.if-not-say.false) c.say.ensures.counts),
       ),
     )

@@ -3,7 +3,7 @@ use Rattle.std.specs.BTreeMap.{is_at}
 use Rattle.std.specs.Map.{set_value}
 use Rattle.p2p_driver.specs.declared.links.Held.{Held}
 use Rattle.p2p_driver.specs.Links.{link_of, hearing}
-use Rattle.p2p_driver.proofs.Linked.{noted_at, noted_count, noted_needs, inverse_on}
+use Rattle.p2p_driver.proofs.Linked.{noted_at, noted_counts, noted_needs, inverse_on}
 use Rattle.p2p_driver.proofs.links.Links.hear.Given.{Over}
 use Rattle.p2p_driver.proofs.links.Links.hear.Goals.{After-apply}
 use Rattle.p2p_driver.proofs.links.Links.hear.Goals as goal
@@ -28,9 +28,9 @@ pub returns-clause-links : goal.returns-clause-links
 returns-clause-links g c = noted_at g.met.C.Ord.total c.args.self.now c.apply.new.of_peers.entries
     (hearing c.args.now c.args.owed c.args.waiting) c.args.peer.now (noted g c) (none g c)
 
-pub returns-clause-count : goal.returns-clause-count
-returns-clause-count g c = noted_count g.met.C.Ord.total c.args.self.now c.apply.new.of_peers.entries
-    (hearing c.args.now c.args.owed c.args.waiting) c.args.peer.now (noted g c) (none g c)
+pub returns-clause-counts : goal.returns-clause-counts
+returns-clause-counts g c = noted_counts g.met.C.Ord.total c.args.self.now c.apply.new.of_peers.entries
+    (hearing c.args.now c.args.owed c.args.waiting) c.args.peer.now (noted g c) (none g c) (λ h. refl)
 
 pub returns-clause-needs : goal.returns-clause-needs
 returns-clause-needs g c = noted_needs g.met.C.Ord.total c.args.self.now c.apply.new.of_peers.entries

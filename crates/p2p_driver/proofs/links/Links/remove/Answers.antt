@@ -1,9 +1,10 @@
 use Rattle.std.proofs.Common.{◌∙◌, ◌+◌, sym, ap}
 use Rattle.std.specs.BTreeMap.{is_at}
-use Rattle.p2p_driver.specs.Links.{need_of, need_at, needs}
+use Rattle.std.specs.Prelude.{if◌then◌else◌}
+use Rattle.p2p_driver.specs.Links.{count_of, is_way, need_of, need_at, needs}
 use Rattle.std.specs.Map.{remove_entry}
 use Rattle.std.proofs.lemmas.Map.Entries.{sum_by-remove_entry}
-use Rattle.p2p_driver.proofs.Linked.{inverse_removed}
+use Rattle.p2p_driver.proofs.Linked.{counts_removed, inverse_removed}
 use Rattle.p2p_driver.proofs.links.Links.remove.Goals as goal
 
 pub invariant_of-self-2 : goal.invariant_of-self-2
@@ -22,3 +23,9 @@ returns-clause-needs g c =
     ∙ sum_by-remove_entry (λ h. need_of h.phase) (is_at (g.C.Ord.cmp c.args.peer.now))
     c.self.inside.of_peers.entries
     ∙ ap needs c.self.view_is
+
+pub returns-clause-counts : goal.returns-clause-counts
+returns-clause-counts g c way =
+    ap (λ ls. count_of way ls + (if is_way way c.in-Some.held.direction then 1 else 0)) c.remove.ensures.entries
+    ∙ counts_removed g.met.C.Ord.total c.self.inside.of_peers.entries c.args.peer.now c.in-Some.held (sym c.in-Some.ensures.value) way
+    ∙ ap (count_of way) c.self.view_is
