@@ -3,6 +3,9 @@
 //! use it.
 #![tactic(auto)]
 
+ghost use Rattle.std.specs.Prelude.{◌≡◌, ◌*◌};
+ghost use Rattle.std.specs.Duration.{as_nanos};
+
 use bytes::Bytes;
 use lines::{command, info, setup};
 use p2p_directory::run::Command;
@@ -107,7 +110,10 @@ pub fn at(millis: u64) -> Now {
 }
 
 /// The times of a tested call: a steady one and that of a wall clock, both in milliseconds.
-pub fn at_wall(millis: u64, wall: u64) -> Now {
+pub fn at_wall(millis: u64, wall: u64) -> Now
+    ensures steady { as_nanos result.steady ≡ millis * 1000000 }
+    ensures wall { as_nanos result.wall ≡ wall * 1000000 }
+{
     Now {
         steady: Duration::from_millis(millis),
         wall: Duration::from_millis(wall),
