@@ -14,9 +14,10 @@ use Rattle.p2p_discovery.specs.declared.discovery.Payload.TheVariants as payload
 use Rattle.p2p_discovery.specs.Judgement.{Judge, to_verify, judged_before}
 use Rattle.p2p_discovery.specs.declared.discovery.PayloadConfig.{PayloadConfig}
 use Rattle.p2p_discovery.specs.Ordered.{has_key}
-use Rattle.p2p_discovery.specs.declared.types.ingress.Ingress.{Ingress}
 use Rattle.p2p_tracker.specs.Calls.{Settings, Call}
 use Rattle.p2p_tracker.specs.History.{same, last_with, found_with}
+use Rattle.p2p_driver.specs.declared.links.Direction.{Direction}
+use Rattle.p2p_driver.specs.declared.links.Direction.TheVariants as way
 use Rattle.p2p_driver.specs.declared.links.Held.{Held}
 use Rattle.p2p_driver.specs.declared.links.Phase.{Phase}
 use Rattle.p2p_driver.specs.declared.links.Phase.TheVariants as phase
@@ -24,12 +25,12 @@ use Rattle.p2p_driver.specs.declared.links.Waiting.{Waiting}
 use Rattle.p2p_driver.specs.Frames.{Cause, Outcome, IsOutcome, Spells, begins_with, is_empty_list, owed_after}
 use Rattle.p2p_driver.specs.Happenings.{Happening, calls_of, opened_by, ends_by, link_since, heard_as, said_with}
 use Rattle.p2p_driver.specs.Laws.{since_of, since_began, is_asked, is_for_set, is_list, asks_by, lists_by, asked_on, lists_on}
-use Rattle.p2p_driver.specs.Links.{link_with, dial_with, asking, saying, writing, closed}
+use Rattle.p2p_driver.specs.Links.{link_with, link_as, taken_way, dial_with, asking, saying, writing, closed}
 use Rattle.p2p_driver.specs.Questions.{asked_after, owed_with}
 use Rattle.p2p_driver.specs.declared.questions.Question.{Question}
 use Rattle.p2p_driver.specs.Drivers.{Base, AreRight, IsHeard, IsAsked, link, standing}
 use Rattle.p2p_driver.proofs.Beginnings.{Begins, not_both, the_empty}
-use Rattle.p2p_driver.proofs.LinkHistory.{touch_by, untouched, closing_if, reaching_if, link_after, link_stays, link_later, link_opens, link_dials, link_hears, link_asks, link_writes, link_speaks, ended_link, closed_link}
+use Rattle.p2p_driver.proofs.LinkHistory.{touch_by, untouched, closing_if, reaching_if, link_after, link_stays, link_later, link_opens, link_adopts, link_dials, link_hears, link_asks, link_writes, link_speaks, ended_link, closed_link}
 use Rattle.p2p_driver.proofs.Standing.{one_more}
 
 -- so many lists were admitted and so many questions asked, on a link that there may be
@@ -162,7 +163,7 @@ module _ {C S : Type 0} (b : Base C S) (reading : Begins b.wire) where
 
   -- HOW MANY since the link of p began
 
-  abbrev began : C → List (Happening C S) → Option ((ℕ × Bool × Duration) × List (Happening C S))
+  abbrev began : C → List (Happening C S) → Option ((ℕ × Direction × Duration) × List (Happening C S))
   began p h = last_with (opened_by d p) h
 
   -- .. with one more that doesn't count
@@ -170,7 +171,7 @@ module _ {C S : Type 0} (b : Base C S) (reading : Begins b.wire) where
       count_by f (since_began d p (e ∷ h)) ≡ count_by f (since_began d p h)
   as_many f p e h opened isnt = ap (λ o. count_by f (since_of (found_with o e (began p h)))) opened ∙ go (began p h)
     where
-      go : (found : Option ((ℕ × Bool × Duration) × List (Happening C S))) →
+      go : (found : Option ((ℕ × Direction × Duration) × List (Happening C S))) →
           count_by f (since_of (found_with None e found)) ≡ count_by f (since_of found)
       go None = refl
       go (Some found) = uncounted (count_by f (e ∷ found.1)) (count_by f found.1) (one_more f e found.1 false isnt)
@@ -180,7 +181,7 @@ module _ {C S : Type 0} (b : Base C S) (reading : Begins b.wire) where
       is_some (link b p h) ≡ true → count_by f (since_began d p (e ∷ h)) ≡ cond x 1 0 + count_by f (since_began d p h)
   more f p e h x opened is linked = ap (λ o. count_by f (since_of (found_with o e (began p h)))) opened ∙ go (began p h) linked
     where
-      go : (found : Option ((ℕ × Bool × Duration) × List (Happening C S))) → is_some (link_since d p found) ≡ true →
+      go : (found : Option ((ℕ × Direction × Duration) × List (Happening C S))) → is_some (link_since d p found) ≡ true →
           count_by f (since_of (found_with None e found)) ≡ cond x 1 0 + count_by f (since_of found)
       go None linked = absurd cc
       go (Some found) linked = one_more f e found.1 x is
@@ -205,44 +206,28 @@ module _ {C S : Type 0} (b : Base C S) (reading : Begins b.wire) where
       ∙ ap (λ y. link_after false y (link b p h)) touch ∙ closed_link x (link b p h))
       (closes x (lists_on d p h) (asked_on d p h) (link b p h) few)
 
-  proved : (n : ℕ) (q : C) (t draw : Duration) (h : List (Happening C S)) (p : C) → Asked p h → Asked p (Happening.Proved n q t draw ∷ h)
-  proved n q t draw h p few = few_at _ _ _ _ _ _ refl refl (link_opens d p q n t draw h) (go (same d q p) (began p h) few)
+  -- a link began, on which nobody was asked
+  begun : (e : Happening C S) (p q : C) (start : ℕ × Direction × Duration) (new : Held) (h : List (Happening C S)) →
+      opened_by d p e ≡ (if same d q p then Some start else None) → lists_by d p e ≡ false → asks_by d p e ≡ false →
+      link b p (e ∷ h) ≡ (if same d q p then Some new else link b p h) → Few 0 0 (Some new) → Asked p h → Asked p (e ∷ h)
+  begun e p q start new h opens lists asks tied none few = few_at _ _ _ _ _ _ (at (lists_by d p)) (at (asks_by d p)) tied (go (same d q p) (began p h) few)
     where
-      e : Happening C S
-      e = Happening.Proved n q t draw
+      at : (f : Happening C S → Bool) → count_by f (since_of (last_with (opened_by d p) (e ∷ h)))
+          ≡ count_by f (since_of (found_with (if same d q p then Some start else None) e (began p h)))
+      at f = ap (λ o. count_by f (since_of (found_with o e (began p h)))) opens
 
-      other : (f : Happening C S → Bool) → f e ≡ false → (found : Option ((ℕ × Bool × Duration) × List (Happening C S))) →
+      other : (f : Happening C S → Bool) → f e ≡ false → (found : Option ((ℕ × Direction × Duration) × List (Happening C S))) →
           count_by f (since_of (found_with None e found)) ≡ count_by f (since_of found)
       other f isnt None = refl
       other f isnt (Some found) = uncounted (count_by f (e ∷ found.1)) (count_by f found.1) (one_more f e found.1 false isnt)
 
-      go : (x : Bool) (found : Option ((ℕ × Bool × Duration) × List (Happening C S))) →
+      go : (x : Bool) (found : Option ((ℕ × Direction × Duration) × List (Happening C S))) →
           Few (count_by (lists_by d p) (since_of found)) (count_by (asks_by d p) (since_of found)) (link b p h) →
-          Few (count_by (lists_by d p) (since_of (found_with (if x then Some (n, false, t) else None) e found)))
-          (count_by (asks_by d p) (since_of (found_with (if x then Some (n, false, t) else None) e found)))
-          (if x then Some (link_with n t) else link b p h)
-      go true found few = omega arith
-      go false found few = few_at _ _ _ _ _ _ (other (lists_by d p) refl found) (other (asks_by d p) refl found) refl few
-
-  dialed : (n : ℕ) (q : C) (t draw : Duration) (word : ℕ) (ingress : Ingress) (h : List (Happening C S)) (p : C) → Asked p h →
-      Asked p (Happening.Dialed n q t draw word ingress ∷ h)
-  dialed n q t draw word ingress h p few = few_at _ _ _ _ _ _ refl refl (link_dials d p q n t draw word ingress h) (go (same d q p) (began p h) few)
-    where
-      e : Happening C S
-      e = Happening.Dialed n q t draw word ingress
-
-      other : (f : Happening C S → Bool) → f e ≡ false → (found : Option ((ℕ × Bool × Duration) × List (Happening C S))) →
-          count_by f (since_of (found_with None e found)) ≡ count_by f (since_of found)
-      other f isnt None = refl
-      other f isnt (Some found) = uncounted (count_by f (e ∷ found.1)) (count_by f found.1) (one_more f e found.1 false isnt)
-
-      go : (x : Bool) (found : Option ((ℕ × Bool × Duration) × List (Happening C S))) →
-          Few (count_by (lists_by d p) (since_of found)) (count_by (asks_by d p) (since_of found)) (link b p h) →
-          Few (count_by (lists_by d p) (since_of (found_with (if x then Some (n, true, t) else None) e found)))
-          (count_by (asks_by d p) (since_of (found_with (if x then Some (n, true, t) else None) e found)))
-          (if x then Some (dial_with n t) else link b p h)
-      go true found few = omega arith
-      go false found few = few_at _ _ _ _ _ _ (other (lists_by d p) refl found) (other (asks_by d p) refl found) refl few
+          Few (count_by (lists_by d p) (since_of (found_with (if x then Some start else None) e found)))
+          (count_by (asks_by d p) (since_of (found_with (if x then Some start else None) e found)))
+          (if x then Some new else link b p h)
+      go true found few = none
+      go false found few = few_at _ _ _ _ _ _ (other (lists_by d p) lists found) (other (asks_by d p) asks found) refl few
 
   module _ (exact : CmpEqualImpliesEq b.made.directory.cmp) where
     -- the peer of a link was heard
@@ -314,21 +299,14 @@ module _ {C S : Type 0} (b : Base C S) (reading : Begins b.wire) where
 
     all_asked : (h : List (Happening C S)) → AreRight b h → (p : C) → Asked p h
     all_asked [] right p = omega arith
-    all_asked (Happening.Arrived n origin t space ∷ h) right p =
-        stays (Happening.Arrived n origin t space) h p refl refl refl refl refl (all_asked h right.2 p)
-    all_asked (Happening.Claimed n q origin t ∷ h) right p =
-        stays (Happening.Claimed n q origin t) h p refl refl refl refl refl (all_asked h right.2 p)
-    all_asked (Happening.Refused n q t why ∷ h) right p =
-        stays (Happening.Refused n q t why) h p refl refl refl refl refl (all_asked h right.2 p)
-    all_asked (Happening.Proved n q t draw ∷ h) right p = proved n q t draw h p (all_asked h right.2 p)
-    all_asked (Happening.Unproved n q t why ∷ h) right p =
-        stays (Happening.Unproved n q t why) h p refl refl refl refl refl (all_asked h right.2 p)
-    all_asked (Happening.Left n t ∷ h) right p =
-        stays (Happening.Left n t) h p refl refl refl refl refl (all_asked h right.2 p)
+    all_asked (Happening.Proved n q t draw ∷ h) right p = begun (Happening.Proved n q t draw) p q (n, way.Inbound, t) (link_with n t) h
+        refl refl refl (link_opens d p q n t draw h) (omega arith) (all_asked h right.2 p)
+    all_asked (Happening.Adopted n q t outbound ∷ h) right p =
+        begun (Happening.Adopted n q t outbound) p q (n, taken_way outbound, t) (link_as (taken_way outbound) n t) h
+        refl refl refl (link_adopts d p q n t outbound h) (omega arith) (all_asked h right.2 p)
     all_asked (Happening.Dialed n q t draw word ingress ∷ h) right p =
-        dialed n q t draw word ingress h p (all_asked h right.2 p)
-    all_asked (Happening.Undialed t ∷ h) right p =
-        stays (Happening.Undialed t) h p refl refl refl refl refl (all_asked h right.2 p)
+        begun (Happening.Dialed n q t draw word ingress) p q (n, way.Dialing, t) (dial_with n t) h
+        refl refl refl (link_dials d p q n t draw word ingress h) (omega arith) (all_asked h right.2 p)
     all_asked (Happening.Reached n q t ∷ h) right p =
         keeps (Happening.Reached n q t) h p (link_after false (reaching_if (same d q p) t) (link b p h)) refl refl refl
         (link_later d p (Happening.Reached n q t) h refl)
@@ -339,12 +317,12 @@ module _ {C S : Type 0} (b : Base C S) (reading : Begins b.wire) where
         keeps (Happening.Ended n q t direction) h p (if same d q p then None else link b p h) refl refl refl
         (link_later d p (Happening.Ended n q t direction) h refl ∙ ended_link (same d q p) (link b p h))
         (ended (same d q p) (lists_on d p h) (asked_on d p h) (link b p h) (all_asked h right.2 p))
+    all_asked (Happening.Failed n q t direction ∷ h) right p =
+        keeps (Happening.Failed n q t direction) h p (if same d q p then None else link b p h) refl refl refl
+        (link_later d p (Happening.Failed n q t direction) h refl ∙ ended_link (same d q p) (link b p h))
+        (ended (same d q p) (lists_on d p h) (asked_on d p h) (link b p h) (all_asked h right.2 p))
     all_asked (Happening.SetCame t index primary secondary torn ∷ h) right p =
         closed_by (Happening.SetCame t index primary secondary torn) h p (has_key d.cmp torn p) refl refl refl refl refl (all_asked h right.2 p)
-    all_asked (Happening.StaleSetCame index primary secondary ∷ h) right p =
-        stays (Happening.StaleSetCame index primary secondary) h p refl refl refl refl refl (all_asked h right.2 p)
-    all_asked (Happening.StreamLate n t ∷ h) right p =
-        stays (Happening.StreamLate n t) h p refl refl refl refl refl (all_asked h right.2 p)
     all_asked (Happening.LinkLate n q t ∷ h) right p =
         closed_by (Happening.LinkLate n q t) h p (same d q p) refl refl refl refl refl (all_asked h right.2 p)
     all_asked (Happening.Written n q t ∷ h) right p =
@@ -356,16 +334,11 @@ module _ {C S : Type 0} (b : Base C S) (reading : Begins b.wire) where
         (speaks (same d q p) t (lists_on d p h) (asked_on d p h) (link b p h) (all_asked h right.2 p))
     all_asked (Happening.Heard n q t owed c x ∷ h) right p = heard n q t owed c x h p right.0 (all_asked h right.2 p)
     all_asked (Happening.Asked n q t owed fits question ∷ h) right p = tried n q t owed fits question h p right.0 (all_asked h right.2 p)
-    all_asked (Happening.Given infos t ∷ h) right p =
-        stays (Happening.Given infos t) h p refl refl refl refl refl (all_asked h right.2 p)
     all_asked (Happening.Barred q t taken ∷ h) right p =
         closed_by (Happening.Barred q t taken) h p (same d q p) refl refl refl refl refl (all_asked h right.2 p)
     all_asked (Happening.Parted q t ∷ h) right p =
         closed_by (Happening.Parted q t) h p (same d q p) refl refl refl refl refl (all_asked h right.2 p)
-    all_asked (Happening.Passed t ∷ h) right p =
-        stays (Happening.Passed t) h p refl refl refl refl refl (all_asked h right.2 p)
-    all_asked (Happening.Taken action ∷ h) right p =
-        stays (Happening.Taken action) h p refl refl refl refl refl (all_asked h right.2 p)
+    all_asked (e ∷ h) right p = stays e h p refl refl refl refl refl (all_asked h right.2 p)
 
     -- no more lists than questions
     pub lists_are_asked : (h : List (Happening C S)) → AreRight b h → (p : C) → lists_on d p h ≤ asked_on d p h

@@ -372,33 +372,20 @@ module _ {C S : Type 0} where
     not_this a isnt is = isnt (only_one call a is)
 
     call_by : (e : Happening C S) → Contains (calls_by e) call → Blames p now e
-    call_by (Happening.Arrived n origin t space) is = absurd (nothing_in call is)
-    call_by (Happening.Claimed n q origin t) is = absurd (nothing_in call is)
-    call_by (Happening.Refused n q t why) is = absurd (nothing_in call is)
     call_by (Happening.Proved n q t draw) is = absurd (not_this (Listen q (as_nanos t) (as_nanos draw)) (λ is. cc) is)
-    call_by (Happening.Unproved n q t why) is = absurd (nothing_in call is)
-    call_by (Happening.Left n t) is = absurd (nothing_in call is)
     call_by (Happening.Dialed n q t draw word ingress) is = absurd (not_this (Dial q (as_nanos t) (as_nanos draw)) (λ is. cc) is)
-    call_by (Happening.Undialed t) is = absurd (nothing_in call is)
-    call_by (Happening.Reached n q t) is = absurd (nothing_in call is)
-    call_by (Happening.Mistaken n q t) is = absurd (nothing_in call is)
     call_by (Happening.Ended n q t direction) is = absurd (not_this (Release q) (λ is. cc) is)
+    call_by (Happening.Released q t) is = absurd (not_this (Release q) (λ is. cc) is)
     call_by (Happening.SetCame t index primary secondary torn) is =
         absurd (not_this (Track index primary secondary) (λ is. cc) is)
     call_by (Happening.StaleSetCame index primary secondary) is =
         absurd (not_this (Track index primary secondary) (λ is. cc) is)
-    call_by (Happening.StreamLate n t) is = absurd (nothing_in call is)
-    call_by (Happening.LinkLate n q t) is = absurd (nothing_in call is)
-    call_by (Happening.Written n q t) is = absurd (nothing_in call is)
-    call_by (Happening.Spoken n q t place) is = absurd (nothing_in call is)
     call_by (Happening.Heard n q t owed c x) is = heard_calls n q t owed c x is
-    call_by (Happening.Asked n q t owed fits question) is = absurd (nothing_in call is)
     call_by (Happening.Given infos t) is = absurd (not_this (Update infos) (λ is. cc) is)
     call_by (Happening.Barred q t taken) is = same_block q p (as_nanos t) now (only_one call (Block q (as_nanos t)) is)
-    call_by (Happening.Parted q t) is = absurd (nothing_in call is)
     call_by (Happening.Passed t) is =
         absurd (of_two (UnblockExpired (as_nanos t)) (ForgetCooled (as_nanos t)) (λ is. cc) (λ is. cc) is)
-    call_by (Happening.Taken action) is = absurd (nothing_in call is)
+    call_by e is = absurd (nothing_in call is)
 
     pub blames : (h : List (Happening C S)) → Contains (calls_of h) call →
         (e : Happening C S) × Contains h e × Blames p now e

@@ -1,5 +1,5 @@
 -- The claims that a driver answered, and what is said of one that goes on.
-use Rattle.std.proofs.Common.{◌≡◌, ℕ, zero, suc, ◌==◌, ◌≤◌, true, false, not, ◌&&◌, nat_lt, List, [], ◌∷◌, map, Option, Some, None, refl, sym, ◌∙◌, ap, subst}
+use Rattle.std.proofs.Common.{◌≡◌, ℕ, zero, suc, ◌==◌, ◌≤◌, true, false, not, ◌&&◌, ◌||◌, nat_lt, List, [], ◌∷◌, map, Option, Some, None, refl, sym, ◌∙◌, ap, subst}
 use Rattle.std.proofs.Common.{arith}
 use Rattle.std.specs.Prelude.{is_some, if◌then◌else◌, unwrap_or}
 use Rattle.std.specs.Duration.{as_nanos}
@@ -13,13 +13,15 @@ use Rattle.p2p_tracker.specs.Answers.{may_listen_at}
 use Rattle.p2p_tracker.specs.History.{last_with, found_with}
 use Rattle.p2p_directory.specs.Run.{world_after}
 use Rattle.p2p_driver.specs.Answers.{AreAnswered}
-use Rattle.p2p_driver.specs.Drivers.{Base, AreRight, IsInTime, link, may_come, no_proof, is_claim_by}
-use Rattle.p2p_driver.specs.Happenings.{Happening, time_by, latest_at, latest_of, answered_in, calls_of, stream_at, inbound_count, link_count}
+use Rattle.p2p_driver.specs.Drivers.{Base, AreRight, IsInTime, link, is_eligible, may_come, no_proof, is_claim_by}
+use Rattle.p2p_driver.specs.Happenings.{Happening, time_by, latest_at, latest_of, answered_in, calls_of, stream_at, inbound_count, outbound_count, link_count}
+use Rattle.p2p_driver.specs.Grants.{unless_linked}
 use Rattle.p2p_driver.specs.Rates.{AreBefore}
 use Rattle.p2p_driver.specs.Steps.{no_proof_of}
 use Rattle.p2p_driver.specs.declared.arrivals.Arrival.{Arrival}
 use Rattle.p2p_driver.specs.declared.origin.Origin.{Origin}
-use Rattle.p2p_driver.proofs.Budget.{inbound_stays, links_stay}
+use Rattle.p2p_driver.proofs.Budget.{inbound_stays, outbound_stays, links_stay}
+use Rattle.p2p_driver.proofs.GrantHistory.{grant_stays}
 use Rattle.p2p_driver.proofs.InTime.{latest_kept}
 use Rattle.p2p_driver.proofs.LinkHistory.{link_stays}
 use Rattle.p2p_driver.proofs.StreamHistory.{stream_after, stream_later}
@@ -56,60 +58,14 @@ module _ {C S : Type 0} (b : Base C S) where
   none_after [] right = λ k a at. absurd cc
   none_after (Happening.Claimed n q origin t ∷ h) right = one_before (as_nanos t) (times h)
       (before_on (latest_at h) (as_nanos t) (times h) right.1 (none_after h right.2))
-  none_after (Happening.Arrived n origin t space ∷ h) right = other (Happening.Arrived n origin t space) h refl right.1 (none_after h right.2)
-  none_after (Happening.Refused n q t why ∷ h) right = other (Happening.Refused n q t why) h refl right.1 (none_after h right.2)
-  none_after (Happening.Proved n q t draw ∷ h) right = other (Happening.Proved n q t draw) h refl right.1 (none_after h right.2)
-  none_after (Happening.Unproved n q t why ∷ h) right = other (Happening.Unproved n q t why) h refl right.1 (none_after h right.2)
-  none_after (Happening.Left n t ∷ h) right = other (Happening.Left n t) h refl right.1 (none_after h right.2)
-  none_after (Happening.Dialed n q t draw word ingress ∷ h) right = other (Happening.Dialed n q t draw word ingress) h refl right.1 (none_after h right.2)
-  none_after (Happening.Undialed t ∷ h) right = other (Happening.Undialed t) h refl right.1 (none_after h right.2)
-  none_after (Happening.Reached n q t ∷ h) right = other (Happening.Reached n q t) h refl right.1 (none_after h right.2)
-  none_after (Happening.Mistaken n q t ∷ h) right = other (Happening.Mistaken n q t) h refl right.1 (none_after h right.2)
-  none_after (Happening.Ended n q t direction ∷ h) right = other (Happening.Ended n q t direction) h refl right.1 (none_after h right.2)
-  none_after (Happening.SetCame t index primary secondary torn ∷ h) right =
-      other (Happening.SetCame t index primary secondary torn) h refl right.1 (none_after h right.2)
-  none_after (Happening.StaleSetCame index primary secondary ∷ h) right =
-      other (Happening.StaleSetCame index primary secondary) h refl right.1 (none_after h right.2)
-  none_after (Happening.StreamLate n t ∷ h) right = other (Happening.StreamLate n t) h refl right.1 (none_after h right.2)
-  none_after (Happening.LinkLate n q t ∷ h) right = other (Happening.LinkLate n q t) h refl right.1 (none_after h right.2)
-  none_after (Happening.Written n q t ∷ h) right = other (Happening.Written n q t) h refl right.1 (none_after h right.2)
-  none_after (Happening.Spoken n q t place ∷ h) right = other (Happening.Spoken n q t place) h refl right.1 (none_after h right.2)
-  none_after (Happening.Heard n q t owed cause outcome ∷ h) right = other (Happening.Heard n q t owed cause outcome) h refl right.1 (none_after h right.2)
-  none_after (Happening.Asked n q t owed fits question ∷ h) right = other (Happening.Asked n q t owed fits question) h refl right.1 (none_after h right.2)
-  none_after (Happening.Given infos t ∷ h) right = other (Happening.Given infos t) h refl right.1 (none_after h right.2)
-  none_after (Happening.Barred q t taken ∷ h) right = other (Happening.Barred q t taken) h refl right.1 (none_after h right.2)
-  none_after (Happening.Parted q t ∷ h) right = other (Happening.Parted q t) h refl right.1 (none_after h right.2)
-  none_after (Happening.Passed t ∷ h) right = other (Happening.Passed t) h refl right.1 (none_after h right.2)
-  none_after (Happening.Taken action ∷ h) right = other (Happening.Taken action) h refl right.1 (none_after h right.2)
+  none_after (e ∷ h) right = other e h refl right.1 (none_after h right.2)
 
   -- each was answered when it might be
   pub are_answered : (h : List (Happening C S)) → AreRight b h → AreAnswered b.pace (answered_in h)
   are_answered [] right = tt
   are_answered (Happening.Claimed n q origin t ∷ h) right =
       (right.0.3, before_on (latest_at h) (as_nanos t) (times h) right.1 (none_after h right.2), are_answered h right.2)
-  are_answered (Happening.Arrived n origin t space ∷ h) right = are_answered h right.2
-  are_answered (Happening.Refused n q t why ∷ h) right = are_answered h right.2
-  are_answered (Happening.Proved n q t draw ∷ h) right = are_answered h right.2
-  are_answered (Happening.Unproved n q t why ∷ h) right = are_answered h right.2
-  are_answered (Happening.Left n t ∷ h) right = are_answered h right.2
-  are_answered (Happening.Dialed n q t draw word ingress ∷ h) right = are_answered h right.2
-  are_answered (Happening.Undialed t ∷ h) right = are_answered h right.2
-  are_answered (Happening.Reached n q t ∷ h) right = are_answered h right.2
-  are_answered (Happening.Mistaken n q t ∷ h) right = are_answered h right.2
-  are_answered (Happening.Ended n q t direction ∷ h) right = are_answered h right.2
-  are_answered (Happening.SetCame t index primary secondary torn ∷ h) right = are_answered h right.2
-  are_answered (Happening.StaleSetCame index primary secondary ∷ h) right = are_answered h right.2
-  are_answered (Happening.StreamLate n t ∷ h) right = are_answered h right.2
-  are_answered (Happening.LinkLate n q t ∷ h) right = are_answered h right.2
-  are_answered (Happening.Written n q t ∷ h) right = are_answered h right.2
-  are_answered (Happening.Spoken n q t place ∷ h) right = are_answered h right.2
-  are_answered (Happening.Heard n q t owed cause outcome ∷ h) right = are_answered h right.2
-  are_answered (Happening.Asked n q t owed fits question ∷ h) right = are_answered h right.2
-  are_answered (Happening.Given infos t ∷ h) right = are_answered h right.2
-  are_answered (Happening.Barred q t taken ∷ h) right = are_answered h right.2
-  are_answered (Happening.Parted q t ∷ h) right = are_answered h right.2
-  are_answered (Happening.Passed t ∷ h) right = are_answered h right.2
-  are_answered (Happening.Taken action ∷ h) right = are_answered h right.2
+  are_answered (e ∷ h) right = are_answered h right.2
 
   -- a claim that goes on may be proved at once
   pub proved_at_once : IsTotalOrder b.made.directory.cmp → (h : List (Happening C S)) (n : ℕ) (p : C) (origin : Origin) (t : Duration) →
@@ -122,13 +78,23 @@ module _ {C S : Type 0} (b : Base C S) where
       e : Happening C S
       e = Happening.Claimed n p origin t
 
+      links : link_count (e ∷ h) ≡ link_count h
+      links = links_stay e h refl refl refl (λ way. refl)
+
+      inbound : inbound_count (e ∷ h) ≡ inbound_count h
+      inbound = inbound_stays e h refl refl
+
+      outbound : outbound_count (e ∷ h) ≡ outbound_count h
+      outbound = outbound_stays e h refl refl (λ way. refl)
+
+      linked : link b p (e ∷ h) ≡ link b p h
+      linked = link_stays b.made.directory p e h refl refl refl
+
       comes : may_come b (e ∷ h) p (as_nanos t) ≡ may_come b h p (as_nanos t)
-      comes = (λ i. (nat_lt (links_stay e h refl refl refl (λ way. refl) i) b.pace.links && nat_lt (inbound_stays e h refl refl i) b.pace.inbound)
-          && (not (is_some (link b p (e ∷ h)))
+      comes i = (nat_lt (links i) b.pace.links && ((nat_lt (outbound i) b.pace.outbound || nat_lt (inbound i) b.pace.inbound)
+          && (is_some (unless_linked (linked i) (grant_stays b.made.directory p e h refl refl i)) && is_eligible b h p (as_nanos t))))
+          || ((nat_lt (links i) b.pace.links && nat_lt (inbound i) b.pace.inbound) && (not (is_some (linked i))
           && may_listen_at b.made.directory (world_after b.made.directory (calls_of h)) p (as_nanos t)))
-          ∙ ap (λ o. (nat_lt (link_count h) b.pace.links && nat_lt (inbound_count h) b.pace.inbound) && (not (is_some o)
-          && may_listen_at b.made.directory (world_after b.made.directory (calls_of h)) p (as_nanos t)))
-          (link_stays b.made.directory p e h refl refl refl)
 
       itself : (n == n) ≡ true
       itself = grind (arith, nat_tests)

@@ -96,33 +96,14 @@ module _ {C S : Type 0} (s : Settings C S) where
 
   pub cut : (h : List (Happening C S)) (e : Happening C S) (p : C) (w : Why) → cut_by s p e ≡ Some w →
       link_at s p (e ∷ h) ≡ option_map closed (link_at s p h)
-  cut h (Happening.Arrived n origin t space) p w is = absurd cc
-  cut h (Happening.Claimed n q origin t) p w is = absurd cc
-  cut h (Happening.Refused n q t y) p w is = absurd cc
-  cut h (Happening.Proved n q t draw) p w is = absurd cc
-  cut h (Happening.Unproved n q t y) p w is = absurd cc
-  cut h (Happening.Left n t) p w is = absurd cc
-  cut h (Happening.Dialed n q t draw word ingress) p w is = absurd cc
-  cut h (Happening.Undialed t) p w is = absurd cc
-  cut h (Happening.Reached n q t) p w is = absurd cc
   cut h (Happening.Mistaken n q t) p w is = link_later s p (Happening.Mistaken n q t) h refl
       ∙ closed_by (same s q p) (link_at s p h) (told (same s q p) why.WrongKey w is).0
-  cut h (Happening.Ended n q t direction) p w is = absurd cc
-  cut h (Happening.SetCame t index primary secondary torn) p w is = absurd cc
-  cut h (Happening.StaleSetCame index primary secondary) p w is = absurd cc
-  cut h (Happening.StreamLate n t) p w is = absurd cc
-  cut h (Happening.LinkLate n q t) p w is = absurd cc
-  cut h (Happening.Written n q t) p w is = absurd cc
-  cut h (Happening.Spoken n q t place) p w is = absurd cc
   cut h (Happening.Heard n q t owed cause outcome) p w is = heard_cut n q t owed cause outcome h p w is
-  cut h (Happening.Asked n q t owed fits question) p w is = absurd cc
-  cut h (Happening.Given infos t) p w is = absurd cc
   cut h (Happening.Barred q t taken) p w is = link_later s p (Happening.Barred q t taken) h refl
       ∙ closed_by (same s q p) (link_at s p h) (told (same s q p) why.Blocked w is).0
   cut h (Happening.Parted q t) p w is = link_later s p (Happening.Parted q t) h refl
       ∙ closed_by (same s q p) (link_at s p h) (told (same s q p) why.Application w is).0
-  cut h (Happening.Passed t) p w is = absurd cc
-  cut h (Happening.Taken action) p w is = absurd cc
+  cut h e p w is = absurd cc
 
   module _ (greeting : List ℕ) (exact : CmpEqualImpliesEq s.cmp) (h : List (Happening C S)) (p : C) (held : Held)
       (linked : link_at s p h ≡ Some held) (isnt : ¬ (held.phase ≡ phase.Closing)) where
@@ -154,27 +135,8 @@ module _ {C S : Type 0} (s : Settings C S) where
 
     pub cut_said : (e : Happening C S) (w : Why) → cut_by s p e ≡ Some w →
         Contains (says_by s greeting h e) (closes held.number w)
-    cut_said (Happening.Arrived n origin t space) w is = absurd cc
-    cut_said (Happening.Claimed n q origin t) w is = absurd cc
-    cut_said (Happening.Refused n q t y) w is = absurd cc
-    cut_said (Happening.Proved n q t draw) w is = absurd cc
-    cut_said (Happening.Unproved n q t y) w is = absurd cc
-    cut_said (Happening.Left n t) w is = absurd cc
-    cut_said (Happening.Dialed n q t draw word ingress) w is = absurd cc
-    cut_said (Happening.Undialed t) w is = absurd cc
-    cut_said (Happening.Reached n q t) w is = absurd cc
     cut_said (Happening.Mistaken n q t) w is = shut_said q why.WrongKey w is
-    cut_said (Happening.Ended n q t direction) w is = absurd cc
-    cut_said (Happening.SetCame t index primary secondary torn) w is = absurd cc
-    cut_said (Happening.StaleSetCame index primary secondary) w is = absurd cc
-    cut_said (Happening.StreamLate n t) w is = absurd cc
-    cut_said (Happening.LinkLate n q t) w is = absurd cc
-    cut_said (Happening.Written n q t) w is = absurd cc
-    cut_said (Happening.Spoken n q t place) w is = absurd cc
     cut_said (Happening.Heard n q t owed cause outcome) w is = heard_said n q t owed cause outcome w is
-    cut_said (Happening.Asked n q t owed fits question) w is = absurd cc
-    cut_said (Happening.Given infos t) w is = absurd cc
     cut_said (Happening.Barred q t taken) w is = shut_said q why.Blocked w is
     cut_said (Happening.Parted q t) w is = shut_said q why.Application w is
-    cut_said (Happening.Passed t) w is = absurd cc
-    cut_said (Happening.Taken action) w is = absurd cc
+    cut_said e w is = absurd cc

@@ -17,10 +17,10 @@ use Rattle.p2p_driver.specs.declared.links.Phase.{Phase}
 use Rattle.p2p_driver.specs.declared.links.Phase.TheVariants as phase
 use Rattle.p2p_driver.specs.Frames.{Cause, Outcome, IsOutcome}
 use Rattle.p2p_driver.specs.Happenings.{Happening, calls_of, opened_by, ends_by, reached_by, heard_as, said_with}
-use Rattle.p2p_driver.specs.Links.{link_with, dial_with, is_way, is_dialing, is_open, is_expected_by, proved_way, asking, saying, writing}
+use Rattle.p2p_driver.specs.Links.{link_with, link_as, taken_way, dial_with, is_way, is_dialing, is_open, is_expected_by, proved_way, asking, saying, writing}
 use Rattle.p2p_driver.specs.Questions.{asked_after}
 use Rattle.p2p_driver.specs.Drivers.{Base, AreRight, IsHeard, IsAsked, IsSpoken, link, standing, untaken}
-use Rattle.p2p_driver.proofs.LinkHistory.{Touch, touch_by, touched, closing_if, reaching_if, way_after, link_after, link_later, link_opens, link_dials, link_hears, link_asks, link_writes, link_speaks}
+use Rattle.p2p_driver.proofs.LinkHistory.{Touch, touch_by, touched, closing_if, reaching_if, way_after, link_after, link_later, link_opens, link_adopts, link_dials, link_hears, link_asks, link_writes, link_speaks}
 
 pub some_is : {A : Type 0} {x y : A} → Some x ≡ Some y → x ≡ y
 some_is e = cc
@@ -39,12 +39,14 @@ dialing_before None direction is = is
 dialing_before (Some t) way.Inbound is = absurd cc
 dialing_before (Some t) way.Dialing is = absurd cc
 dialing_before (Some t) way.Outbound is = absurd cc
+dialing_before (Some t) way.TakenOver is = absurd cc
 
 -- .. and is none any more once its stream was proved
 pub none_dials : (direction : Direction) → ¬ (is_way way.Dialing (proved_way direction) ≡ true)
 none_dials way.Inbound is = cc
 none_dials way.Dialing is = cc
 none_dials way.Outbound is = cc
+none_dials way.TakenOver is = cc
 
 -- nothing was said, nothing waits, no frame may be handed in, and nobody has greeted
 pub record IsFresh (held : Held) : Type 0 where
@@ -132,12 +134,19 @@ module _ {C S : Type 0} (b : Base C S) where
       go true one found = at (link b p h) refl one found
       go false other found = fresh held found dial
 
-  proved : (n : ℕ) (q : C) (t draw : Duration) (h : List (Happening C S)) (p : C) → IsFreshOf p h → IsFreshOf p (Happening.Proved n q t draw ∷ h)
-  proved n q t draw h p fresh held linked dial = go (same d q p) (sym (link_opens d p q n t draw h) ∙ linked)
+  -- a stream was proved that came in
+  proved : (e : Happening C S) (q : C) (new : Held) (h : List (Happening C S)) (p : C) → is_dialing new ≡ false →
+      link b p (e ∷ h) ≡ (if same d q p then Some new else link b p h) → IsFreshOf p h → IsFreshOf p (e ∷ h)
+  proved e q new h p none tied fresh held linked dial = go (same d q p) (sym tied ∙ linked)
     where
-      go : (x : Bool) → (if x then Some (link_with n t) else link b p h) ≡ Some held → IsFresh held
-      go true found = let is = ap (λ (x : Held). is_dialing x) (some_is found) ∙ dial in absurd cc
+      go : (x : Bool) → (if x then Some new else link b p h) ≡ Some held → IsFresh held
+      go true found = let is = sym none ∙ ap (λ (x : Held). is_dialing x) (some_is found) ∙ dial in absurd cc
       go false found = fresh held found dial
+
+  -- .. not a dial
+  not_dialing : (outbound : Bool) (n : ℕ) (t : Duration) → is_dialing (link_as (taken_way outbound) n t) ≡ false
+  not_dialing true n t = refl
+  not_dialing false n t = refl
 
   dialed : (n : ℕ) (q : C) (t draw : Duration) (word : ℕ) (ingress : Ingress) (h : List (Happening C S)) (p : C) → IsFreshOf p h →
       IsFreshOf p (Happening.Dialed n q t draw word ingress ∷ h)
@@ -156,22 +165,16 @@ module _ {C S : Type 0} (b : Base C S) where
 
     fresh_at : (h : List (Happening C S)) → AreRight b h → (p : C) → IsFreshOf p h
     fresh_at [] right p = λ held linked dial. absurd cc
-    fresh_at (Happening.Arrived n origin t space ∷ h) right p = stays (Happening.Arrived n origin t space) h p refl (λ g dial fresh. fresh) (fresh_at h right.2 p)
-    fresh_at (Happening.Claimed n q origin t ∷ h) right p = stays (Happening.Claimed n q origin t) h p refl (λ g dial fresh. fresh) (fresh_at h right.2 p)
-    fresh_at (Happening.Refused n q t why ∷ h) right p = stays (Happening.Refused n q t why) h p refl (λ g dial fresh. fresh) (fresh_at h right.2 p)
-    fresh_at (Happening.Proved n q t draw ∷ h) right p = proved n q t draw h p (fresh_at h right.2 p)
-    fresh_at (Happening.Unproved n q t why ∷ h) right p = stays (Happening.Unproved n q t why) h p refl (λ g dial fresh. fresh) (fresh_at h right.2 p)
-    fresh_at (Happening.Left n t ∷ h) right p = stays (Happening.Left n t) h p refl (λ g dial fresh. fresh) (fresh_at h right.2 p)
+    fresh_at (Happening.Proved n q t draw ∷ h) right p =
+        proved (Happening.Proved n q t draw) q (link_with n t) h p refl (link_opens d p q n t draw h) (fresh_at h right.2 p)
+    fresh_at (Happening.Adopted n q t outbound ∷ h) right p = proved (Happening.Adopted n q t outbound) q (link_as (taken_way outbound) n t) h p
+        (not_dialing outbound n t) (link_adopts d p q n t outbound h) (fresh_at h right.2 p)
     fresh_at (Happening.Dialed n q t draw word ingress ∷ h) right p = dialed n q t draw word ingress h p (fresh_at h right.2 p)
-    fresh_at (Happening.Undialed t ∷ h) right p = stays (Happening.Undialed t) h p refl (λ g dial fresh. fresh) (fresh_at h right.2 p)
     fresh_at (Happening.Reached n q t ∷ h) right p = stays (Happening.Reached n q t) h p refl (λ g dial. reaches (same d q p) t g dial) (fresh_at h right.2 p)
     fresh_at (Happening.Mistaken n q t ∷ h) right p =
         stays (Happening.Mistaken n q t) h p refl (λ g dial fresh. closes (same d q p) g fresh) (fresh_at h right.2 p)
-    fresh_at (Happening.Ended n q t direction ∷ h) right p = stays (Happening.Ended n q t direction) h p refl (λ g dial fresh. fresh) (fresh_at h right.2 p)
     fresh_at (Happening.SetCame t index primary secondary torn ∷ h) right p =
         stays (Happening.SetCame t index primary secondary torn) h p refl (λ g dial fresh. closes (has_key d.cmp torn p) g fresh) (fresh_at h right.2 p)
-    fresh_at (Happening.StaleSetCame index primary secondary ∷ h) right p = stays (Happening.StaleSetCame index primary secondary) h p refl (λ g dial fresh. fresh) (fresh_at h right.2 p)
-    fresh_at (Happening.StreamLate n t ∷ h) right p = stays (Happening.StreamLate n t) h p refl (λ g dial fresh. fresh) (fresh_at h right.2 p)
     fresh_at (Happening.LinkLate n q t ∷ h) right p =
         stays (Happening.LinkLate n q t) h p refl (λ g dial fresh. closes (same d q p) g fresh) (fresh_at h right.2 p)
     fresh_at (Happening.Heard n q t owed c outcome ∷ h) right p =
@@ -191,13 +194,11 @@ module _ {C S : Type 0} (b : Base C S) where
         passed (Happening.Spoken n q t place) h p q (saying (Some t)) (link_speaks d p q n t place h) (λ g. refl)
         (λ is g linked dial fresh. not_open (is_open g.phase) fresh.unopened
         (at_peer (λ r. IsSpoken b h n t place) p q h is right.0 g linked).opens) (fresh_at h right.2 p)
-    fresh_at (Happening.Given infos t ∷ h) right p = stays (Happening.Given infos t) h p refl (λ g dial fresh. fresh) (fresh_at h right.2 p)
     fresh_at (Happening.Barred q t taken ∷ h) right p =
         stays (Happening.Barred q t taken) h p refl (λ g dial fresh. closes (same d q p) g fresh) (fresh_at h right.2 p)
     fresh_at (Happening.Parted q t ∷ h) right p =
         stays (Happening.Parted q t) h p refl (λ g dial fresh. closes (same d q p) g fresh) (fresh_at h right.2 p)
-    fresh_at (Happening.Passed t ∷ h) right p = stays (Happening.Passed t) h p refl (λ g dial fresh. fresh) (fresh_at h right.2 p)
-    fresh_at (Happening.Taken action ∷ h) right p = stays (Happening.Taken action) h p refl (λ g dial fresh. fresh) (fresh_at h right.2 p)
+    fresh_at (e ∷ h) right p = stays e h p refl (λ g dial fresh. fresh) (fresh_at h right.2 p)
 
     pub fresh : (h : List (Happening C S)) → AreRight b h → (p : C) (held : Held) → link b p h ≡ Some held → is_dialing held ≡ true →
         IsFresh held

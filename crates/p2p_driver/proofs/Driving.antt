@@ -1,5 +1,5 @@
 -- How the calls of a driver make it stand, by its parts.
-use Rattle.std.proofs.Common.{false, ◌≡◌, Bool, true, not, ◌&&◌, nat_lt, Option, Some, None, find, filter, ℕ, ◌+◌, ◌≤◌, ◌<◌, List, [], ◌∷◌, ◌++◌, refl, sym, ◌∙◌, ap, subst}
+use Rattle.std.proofs.Common.{false, ◌≡◌, Bool, true, not, ◌&&◌, ◌||◌, nat_lt, Option, Some, None, find, filter, ℕ, ◌+◌, ◌≤◌, ◌<◌, List, [], ◌∷◌, ◌++◌, refl, sym, ◌∙◌, ap, subst}
 use Rattle.std.proofs.Common.{arith, ◌*◌, nat_le}
 use Rattle.std.proofs.lemmas.Bool.Decides.{nat_tests}
 use Rattle.std.specs.Prelude.{max, is_some, IfSome, option_map}
@@ -10,15 +10,16 @@ use Rattle.std.specs.declared.time.Duration.{Duration}
 use Rattle.p2p_discovery.specs.declared.discovery.Payload.TheVariants as payload
 use Rattle.p2p_directory.specs.Nodes.{NodeView, NodeStandsAt, Made, AtEach, made_of}
 use Rattle.p2p_directory.specs.Run.{world_after}
-use Rattle.p2p_tracker.specs.Answers.{may_listen_at}
+use Rattle.p2p_tracker.specs.Answers.{may_listen_at, is_eligible_at}
 use Rattle.p2p_tracker.specs.Calls.{Call}
 use Rattle.p2p_directory.specs.declared.node.setup.Setup.{Setup}
 use Rattle.p2p_directory.specs.Received.{Wire}
 use Rattle.p2p_driver.specs.Actions.{ActionsView}
 use Rattle.p2p_driver.specs.Answers.{AnswersView, AreKept, MayAnswer, IsClaimRefusal, roomless}
-use Rattle.p2p_driver.specs.Steps.{comes_by, dials_by}
+use Rattle.p2p_driver.specs.Grants.{grant_of, kept_grant, unless_linked}
+use Rattle.p2p_driver.specs.Steps.{comes_by, adopts_by, dials_by, outbound_of, is_outbound_free}
 use Rattle.p2p_driver.specs.Arrivals.{arrival_of, room_of, arrived, has_number, claimed}
-use Rattle.p2p_driver.specs.Drivers.{DriverView, DriverStands, DriverStandsAt, Does, Comes, AreStreams, Base, link, may_come, has_dial_place, may_claim, AnswersClaim, ClaimedBy, seen, base_of}
+use Rattle.p2p_driver.specs.Drivers.{DriverView, DriverStands, DriverStandsAt, Does, Comes, AreStreams, Base, link, kept, is_eligible, may_come, has_dial_place, has_outbound_place, may_claim, AnswersClaim, ClaimedBy, seen, base_of}
 use Rattle.p2p_driver.specs.Happenings.{Happening, crowded_out, closing, answered_in, calls_of, inbound_count, outbound_count, link_count}
 use Rattle.p2p_driver.specs.Links.{link_of, count_of, needs}
 use Rattle.p2p_driver.specs.Meters.{MetersView}
@@ -28,7 +29,7 @@ use Rattle.p2p_driver.specs.declared.actions.Why.{Why}
 use Rattle.p2p_driver.specs.declared.arrivals.Arrival.{Arrival}
 use Rattle.p2p_driver.specs.declared.arrivals.Room.{Room}
 use Rattle.p2p_driver.specs.declared.arrivals.Room.TheVariants as room
-use Rattle.p2p_driver.specs.declared.links.Direction.TheVariants.{Inbound, Dialing, Outbound}
+use Rattle.p2p_driver.specs.declared.links.Direction.TheVariants.{Inbound, Dialing, Outbound, TakenOver}
 use Rattle.p2p_driver.specs.declared.links.Held.{Held}
 use Rattle.p2p_driver.specs.declared.origin.Origin.{Origin}
 use Rattle.p2p_driver.specs.declared.pace.Pace.{Pace}
@@ -72,9 +73,18 @@ unslotted at = record {
   verifier = at.verifier;
 }
 
+-- what is so wherever a node stands is so of it without slots, and the other way round
+pub each_unslotted : {C S : Type 0} {cmp : C → C → Ordering} {node : NodeView C S} (P : Made C S → List (Call C S) → Type 0) →
+    AtEach cmp (record node { slots = [] }) P → AtEach cmp node P
+each_unslotted P is given calls at = is given calls (unslotted at)
+
+pub each_slotted : {C S : Type 0} {cmp : C → C → Ordering} {node : NodeView C S} (P : Made C S → List (Call C S) → Type 0) →
+    AtEach cmp node P → AtEach cmp (record node { slots = [] }) P
+each_slotted P is given calls at = is given calls (slotted at)
+
 module _ {C S : Type 0} where
   -- parts that are as they are seen
-  pub viewed : (v : DriverView C S) (node : NodeView C S) (pace : Pace) (greeting : List ℕ) (cooldown : ℕ) (dial : NextDial) (latest next : ℕ)
+  pub viewed : (v : DriverView C S) (node : NodeView C S) (pace : Pace) (greeting : List ℕ) (cooldown : ℕ) (dial : NextDial C) (latest next : ℕ)
       (arrivals : List (Arrival C)) (answers : AnswersView) (reads : List (ℕ × MetersView)) (links : List (C × Held)) (actions : List (Action C)) →
       v.node ≡ record node { slots = [] } → v.pace ≡ pace → v.greeting ≡ greeting → v.cooldown ≡ cooldown → v.next_dial ≡ dial → v.latest ≡ latest → v.next ≡ next →
       v.arrivals ≡ arrivals → v.answers ≡ roomless answers → v.reads ≡ reads → v.links ≡ links → v.actions ≡ actions →
@@ -94,7 +104,7 @@ module _ {C S : Type 0} where
     actions = k i;
   }
 
-module _ {C S : Type 0} (node : NodeView C S) (pace : Pace) (greeting : List ℕ) (cooldown : ℕ) (dial : NextDial) (latest next : ℕ)
+module _ {C S : Type 0} (node : NodeView C S) (pace : Pace) (greeting : List ℕ) (cooldown : ℕ) (dial : NextDial C) (latest next : ℕ)
     (arrivals : List (Arrival C)) (answers : AnswersView) (reads : List (ℕ × MetersView)) (links : List (C × Held)) (actions : List (Action C)) where
   abbrev v : DriverView C S
   v = seen node pace greeting cooldown dial latest next arrivals answers reads links actions
@@ -124,24 +134,38 @@ module _ {C S : Type 0} (node : NodeView C S) (pace : Pace) (greeting : List ℕ
       ∙ ap (λ n. (nat_lt (link_count h) b.pace.links && nat_lt n b.pace.inbound) && (not (is_some (link_of b.made.directory.cmp links p)) && x)) (as_inbound h links at.counts)
       ∙ ap (λ o. (nat_lt (link_count h) b.pace.links && nat_lt (inbound_count h) b.pace.inbound) && (not (is_some o) && x)) (at.links p)
 
+  -- .. by a grant that is kept of it
+  pub outbound_is : (b : Base C S) (h : List (Happening C S)) → DriverStandsAt b h v → is_outbound_free pace links ≡ has_outbound_place b h
+  outbound_is b h at = λ i. nat_lt (as_outbound h links at.counts i) (at.pace i).outbound
+
+  pub adopts_is : (b : Base C S) (h : List (Happening C S)) → DriverStandsAt b h v → (p : C) (x : Bool) →
+      adopts_by pace links (is_some (kept_grant b.made.directory.cmp links dial.grants p)) x
+      ≡ (nat_lt (link_count h) b.pace.links && ((has_outbound_place b h || nat_lt (inbound_count h) b.pace.inbound) && (is_some (kept b p h) && x)))
+  adopts_is b h at p x = λ i. nat_lt (as_many h links at.counts i) (at.pace i).links
+      && ((outbound_is b h at i || nat_lt (as_inbound h links at.counts i) (at.pace i).inbound)
+      && (is_some (unless_linked (at.links p i) (at.grants p i)) && x))
+
   -- .. and whether another dial has a place
   pub dials_is : (b : Base C S) (h : List (Happening C S)) → DriverStandsAt b h v → dials_by pace links ≡ has_dial_place b h
   dials_is b h at =
       ap (λ q. dials_by q links) at.pace
-      ∙ ap (λ n. nat_lt n b.pace.links && (nat_lt (count_of Dialing links + count_of Outbound links) b.pace.outbound && nat_lt (count_of Dialing links) b.pace.dials)) (as_many h links at.counts)
+      ∙ ap (λ n. nat_lt n b.pace.links && (nat_lt (outbound_of links) b.pace.outbound && nat_lt (count_of Dialing links) b.pace.dials)) (as_many h links at.counts)
       ∙ ap (λ n. nat_lt (link_count h) b.pace.links && (nat_lt n b.pace.outbound && nat_lt (count_of Dialing links) b.pace.dials)) (as_outbound h links at.counts)
       ∙ ap (λ n. nat_lt (link_count h) b.pace.links && (nat_lt (outbound_count h) b.pace.outbound && nat_lt n b.pace.dials)) (as_dialing h links at.counts)
 
   -- what decides whether a peer may come
   abbrev pub MayIs : (C → C → Ordering) → C → Duration → Bool → Type 0
-  MayIs cmp p t may = AtEach cmp node (λ m calls. may ≡ comes_by cmp pace links p
-      (may_listen_at m.directory (world_after m.directory calls) p (as_nanos t)))
+  MayIs cmp p t may = AtEach cmp node (λ m calls. let w = world_after m.directory calls in may
+      ≡ (adopts_by pace links (is_some (kept_grant cmp links dial.grants p)) (is_eligible_at m.directory w p (as_nanos t))
+      || comes_by cmp pace links p (may_listen_at m.directory w p (as_nanos t))))
 
   may_is : (cmp : C → C → Ordering) (wire : Wire C S) (given : Setup C S) (pace2 : Pace) (h : List (Happening C S)) →
       DriverStandsAt (base_of cmp wire given pace2) h v → (p : C) (t : Duration) (may : Bool) → MayIs cmp p t may →
       may ≡ may_come (base_of cmp wire given pace2) h p (as_nanos t)
   may_is cmp wire given pace2 h at p t may is = is given (calls_of h) (slotted at.node)
-      ∙ comes_is (base_of cmp wire given pace2) h at p _
+      ∙ λ i. adopts_is (base_of cmp wire given pace2) h at p (is_eligible (base_of cmp wire given pace2) h p (as_nanos t)) i
+      || comes_is (base_of cmp wire given pace2) h at p
+      (may_listen_at (made_of cmp given).directory (world_after (made_of cmp given).directory (calls_of h)) p (as_nanos t)) i
 
   module _ {cmp : C → C → Ordering} {wire : Wire C S} where
     -- a stream came
@@ -219,7 +243,7 @@ module _ {C S : Type 0} (node : NodeView C S) (pace : Pace) (greeting : List ℕ
           refl refl refl refl refl refl refl (ap (λ k. filter (λ a. not (has_number k a)) arrivals) (sym number) ∙ sym streams) refl refl refl
           (ap (λ k. actions ++ closing k w) (sym number) ∙ sym said))
           (Standing.goes b h v at n t (Happening.Refused n p t w) (closing n w) (roomless answers2)
-          refl (λ j. refl) (λ j. refl) (λ j. refl) refl refl (λ q. refl) (λ q. refl) (λ q. refl) (λ way. refl) refl refl refl refl refl refl refl (λ j. refl) (λ j. refl) (λ j place. refl) (
+          refl (λ j. refl) (λ j. refl) (λ j. refl) refl refl (λ q. refl) (λ q. refl) (λ q. refl) (λ way. refl) refl refl refl refl (λ q. refl) (λ q. refl) refl refl refl refl (λ j. refl) (λ j. refl) (λ j place. refl) (
             subst (λ o. IsSomeAnd o (λ a. a.claim ≡ None)) here none,
             (
               stream.origin,
@@ -257,11 +281,11 @@ module _ {C S : Type 0} {cmp : C → C → Ordering} {wire : Wire C S} where
 
 -- a new driver
 pub stands_new : {C S : Type 0} (cmp : C → C → Ordering) (wire : Wire C S) (given : Setup C S) (node : NodeView C S) (pace : Pace)
-    (greeting : List ℕ) (dial : NextDial) (arrivals : List (Arrival C)) (answers : AnswersView) (reads : List (ℕ × MetersView)) (links : List (C × Held)) (actions : ActionsView C) →
-    option_map as_nanos dial.from ≡ Some 0 → dial.retry ≡ 0 → NodeStandsAt (made_of cmp given) [] node → greeting ≡ wire.spelling (payload.Greeting given.myself) → arrivals ≡ [] →
+    (greeting : List ℕ) (dial : NextDial C) (arrivals : List (Arrival C)) (answers : AnswersView) (reads : List (ℕ × MetersView)) (links : List (C × Held)) (actions : ActionsView C) →
+    option_map as_nanos dial.from ≡ Some 0 → dial.retry ≡ 0 → dial.grants ≡ [] → NodeStandsAt (made_of cmp given) [] node → greeting ≡ wire.spelling (payload.Greeting given.myself) → arrivals ≡ [] →
     AreKept pace 0 [] answers → reads ≡ [] → links ≡ [] → actions.items ≡ [] →
     DriverStandsAt (base_of cmp wire given pace) [] (seen node pace greeting (as_nanos given.cfg.peer_connection_cooldown) dial 0 1 arrivals answers reads links actions.items)
-stands_new cmp wire given node pace greeting dial arrivals answers reads links actions zero first stands own streams kept unread none nothing = record {
+stands_new cmp wire given node pace greeting dial arrivals answers reads links actions zero first ungranted stands own streams kept unread none nothing = record {
   node = record {
     limit_fits = stands.limit_fits;
     refines = stands.refines;
@@ -278,10 +302,12 @@ stands_new cmp wire given node pace greeting dial arrivals answers reads links a
   answers = record { all = kept.all; each = kept.each };
   reads = λ n. ap (λ rs. reads_of rs n) unread;
   links = λ p. ap (λ es. link_of cmp es p) none;
+  grants = λ p. ap (λ gs. grant_of cmp gs p) ungranted;
   counts = record {
     inbound = ap (λ es. count_of Inbound es + 0) none;
     dialing = ap (λ es. count_of Dialing es + 0) none;
     outbound = ap (λ es. count_of Outbound es + 0) none;
+    taken_over = ap (λ es. count_of TakenOver es + 0) none;
   };
   quiet = Standing.quiet_zero (made_of cmp given).directory (world_after (made_of cmp given).directory []) 0 (option_map as_nanos dial.from) zero;
   retry = first;

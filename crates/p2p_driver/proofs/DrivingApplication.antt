@@ -30,16 +30,16 @@ use Rattle.p2p_driver.specs.declared.pace.Pace.{Pace}
 use Rattle.p2p_driver.specs.declared.next_dial.NextDial.{NextDial}
 use Rattle.p2p_driver.proofs.Driving.{slotted, unslotted}
 use Rattle.p2p_driver.proofs.Standing
-use Rattle.p2p_driver.proofs.Standing.{IsAtOnce}
+use Rattle.p2p_driver.proofs.Standing.{IsSoon}
 
 module _ {C S : Type 0} (cmp : C → C → Ordering) (wire : Wire C S) (node : NodeView C S) (pace : Pace)
-    (greeting : List ℕ) (cooldown : ℕ) (dial : NextDial) (latest next : ℕ) (arrivals : List (Arrival C)) (answers : AnswersView) (reads : List (ℕ × MetersView))
+    (greeting : List ℕ) (cooldown : ℕ) (dial : NextDial C) (latest next : ℕ) (arrivals : List (Arrival C)) (answers : AnswersView) (reads : List (ℕ × MetersView))
     (links : List (C × Held)) (actions : List (Action C)) where
   abbrev v : DriverView C S
   v = seen node pace greeting cooldown dial latest next arrivals answers reads links actions
 
   -- infos came
-  pub gives : (infos : List (Info C S)) (t : Duration) (node2 : NodeView C S) (dial2 : NextDial) → IsAtOnce dial dial2 → latest ≤ as_nanos t →
+  pub gives : (infos : List (Info C S)) (t : Duration) (node2 : NodeView C S) (dial2 : NextDial C) → IsSoon dial dial2 → latest ≤ as_nanos t →
       Makes cmp (Update infos ∷ []) node node2 →
       Does cmp wire (Happening.Given infos t) v
       (seen node2 pace greeting cooldown dial2 (as_nanos t) next arrivals answers reads links actions)
@@ -50,8 +50,8 @@ module _ {C S : Type 0} (cmp : C → C → Ordering) (wire : Wire C S) (node : N
   }
 
   -- a peer was blocked
-  pub bars : (p : C) (t : Duration) (taken : Bool) (node2 : NodeView C S) (dial2 : NextDial) (links2 : List (C × Held))
-      (actions2 : List (Action C)) → IsAtOnce dial dial2 → latest ≤ as_nanos t →
+  pub bars : (p : C) (t : Duration) (taken : Bool) (node2 : NodeView C S) (dial2 : NextDial C) (links2 : List (C × Held))
+      (actions2 : List (Action C)) → IsSoon dial dial2 → latest ≤ as_nanos t →
       Makes cmp (Block p (as_nanos t) ∷ []) node node2 → IsBlocked cmp p (as_nanos t) (Some taken) node →
       ((q : C) → link_of cmp links2 q ≡ closed_at cmp p (link_of cmp links) q) → ((way : Direction) → count_of way links2 ≡ count_of way links) →
       actions2 ≡ actions ++ shut p why.Blocked (link_of cmp links p) →

@@ -1,5 +1,5 @@
 -- How dials make a driver stand, by its parts.
-use Rattle.std.proofs.Common.{◌≡◌, ◌==◌, ◌+◌, ◌≤◌, ◌<◌, ℕ, Bool, true, false, not, ◌&&◌, List, [], ◌∷◌, ◌++◌, Option, Some, None, refl, sym, ◌∙◌, ap, subst, inl, inr, arith}
+use Rattle.std.proofs.Common.{◌≡◌, ◌==◌, ◌+◌, ◌≤◌, ◌<◌, ℕ, Bool, true, false, not, ◌&&◌, ◌||◌, List, [], ◌∷◌, ◌++◌, Option, Some, None, refl, sym, ◌∙◌, ap, subst, inl, inr, arith}
 use Rattle.std.specs.Prelude.{if◌then◌else◌, length, max, nat_le, nat_lt, option_map, is_some, Result, Ok, Err}
 use Rattle.std.specs.BTreeMap.{is_at}
 use Rattle.std.specs.Duration.{as_nanos}
@@ -14,13 +14,14 @@ use Rattle.p2p_tracker.specs.Calls.Call.{Dial}
 use Rattle.p2p_directory.specs.Nodes.{NodeView, made_of}
 use Rattle.p2p_directory.specs.Received.{Wire}
 use Rattle.p2p_driver.specs.Answers.{AnswersView}
-use Rattle.p2p_driver.specs.Drivers.{Base, DriverView, DriverStands, DriverStandsAt, Does, DialProvedBy, jitter_of, seen, base_of}
-use Rattle.p2p_driver.specs.Happenings.{Happening, calls_of, dialing, sent, shut, closed_at}
+use Rattle.p2p_driver.specs.Drivers.{Base, DriverView, DriverStands, DriverStandsAt, Does, DoesAll, DialProvedBy, jitter_of, link, seen, base_of}
+use Rattle.p2p_driver.specs.Happenings.{Happening, calls_of, dialing, sent, shut, closed_at, grant_at}
 use Rattle.p2p_driver.specs.Links.{link_of, count_of, is_way, is_dialing, is_timed, is_late, is_to_ask, dial_with, reached, saying}
+use Rattle.p2p_driver.specs.Grants.{grant_of, kept_grant, unless_linked, is_cooled}
 use Rattle.p2p_driver.specs.Meters.{MetersView}
 use Rattle.p2p_driver.specs.Reads.{reads_of, unread}
 use Rattle.p2p_driver.specs.Steps.{Makes, IsGranted, IsAddress, IsChosen, StaysQuiet, MayBeDialled, IsQuietIn, dials_by, is_before}
-use Rattle.p2p_driver.specs.Timers.{is_to_dial, DoesAll, BeginsOne, Begins, DialsOne}
+use Rattle.p2p_driver.specs.Timers.{is_to_dial, BeginsOne, Begins, DialsOne, NoneCooled}
 use Rattle.std.specs.Result.{is_err, IsErr}
 use Rattle.p2p_driver.specs.declared.driver.dialing.Dialed.TheVariants as dialed
 use Rattle.p2p_driver.specs.declared.actions.Action.{Action}
@@ -37,7 +38,7 @@ use Rattle.p2p_driver.proofs.Driving.{viewed, dials_is, slotted, unslotted}
 use Rattle.std.specs.Cmp.{IsTotalOrder}
 use Rattle.p2p_tracker.specs.Status.{is_inert}
 use Rattle.p2p_tracker.specs.World.{World}
-use Rattle.p2p_driver.proofs.Busy.{linked_is_busy}
+use Rattle.p2p_driver.proofs.Busy.{reserved_is_busy, is_reserved_by}
 use Rattle.p2p_driver.proofs.Dialable.{chosen_is_dialable, dialable_is_inert}
 use Rattle.p2p_driver.proofs.Lasting.{unread_next}
 use Rattle.p2p_driver.proofs.Unused.{unused_next}
@@ -126,7 +127,7 @@ abbrev pub IsDial : ℕ → Held → Type 0
 IsDial n held = (held.number ≡ n) × (is_dialing held ≡ true) × (is_timed held.phase ≡ true)
 
 module _ {C S : Type 0} (cmp : C → C → Ordering) (wire : Wire C S) (node : NodeView C S) (pace : Pace)
-    (greeting : List ℕ) (cooldown : ℕ) (dial : NextDial) (latest next : ℕ) (arrivals : List (Arrival C)) (answers : AnswersView) (reads : List (ℕ × MetersView))
+    (greeting : List ℕ) (cooldown : ℕ) (dial : NextDial C) (latest next : ℕ) (arrivals : List (Arrival C)) (answers : AnswersView) (reads : List (ℕ × MetersView))
     (links : List (C × Held)) (actions : List (Action C)) where
   abbrev v : DriverView C S
   v = seen node pace greeting cooldown dial latest next arrivals answers reads links actions
@@ -167,9 +168,9 @@ module _ {C S : Type 0} (cmp : C → C → Ordering) (wire : Wire C S) (node : N
   pub unused_here : DriverStands cmp wire v → (q : C) (held : Held) → link_of cmp links q ≡ Some held → held.number ≡ next → ⊥
   unused_here at q held is number = unused_next (base_of cmp wire at.given at.pace) at.history v at.stands q held is number
 
-  pub unlinked_here : IsTotalOrder cmp → CmpEqualImpliesEq cmp → DriverStands cmp wire v → (t word : ℕ) (p : C) → IsChosen cmp t word p node →
-      link_of cmp links p ≡ None
-  unlinked_here total exact at t word p chosen = go (link_of cmp links p) refl
+  unreserved : IsTotalOrder cmp → CmpEqualImpliesEq cmp → (at : DriverStands cmp wire v) → (t word : ℕ) (p : C) → IsChosen cmp t word p node →
+      is_reserved_by (base_of cmp wire at.given at.pace) at.history p ≡ false
+  unreserved total exact at t word p chosen = isnt (is_inert (w.peer p).status) inert (reserved_is_busy b at.given.cfg.max_sets.ok exact at.history at.stands.right p)
     where
       b : Base C S
       b = base_of cmp wire at.given at.pace
@@ -177,29 +178,45 @@ module _ {C S : Type 0} (cmp : C → C → Ordering) (wire : Wire C S) (node : N
       w : World C S
       w = world_after b.made.directory (calls_of at.history)
 
-      inert : (w.peer p).status ≡ (w.peer p).status → is_inert (w.peer p).status ≡ true
-      inert same = dialable_is_inert b.made.directory w t p (chosen_is_dialable b.made.directory total w t word p (chosen at.given (calls_of at.history) (slotted at.stands.node)))
+      inert : is_inert (w.peer p).status ≡ true
+      inert = dialable_is_inert b.made.directory w t p (chosen_is_dialable b.made.directory total w t word p (chosen at.given (calls_of at.history) (slotted at.stands.node)))
 
-      go : (o : Option Held) → link_of cmp links p ≡ o → link_of cmp links p ≡ None
-      go None is = is
-      go (Some held) is = absurd (never (is_inert (w.peer p).status) (inert refl)
-          (sym (linked_is_busy b at.given.cfg.max_sets.ok exact at.history at.stands.right p) ∙ ap is_some (sym (at.stands.links p) ∙ is)))
-        where
-          never : (x : Bool) → x ≡ true → not x ≡ true → ⊥
-          never true is isnt = cc
-          never false is isnt = cc
+      isnt : (x : Bool) → x ≡ true → {y : Bool} → y ≡ not x → y ≡ false
+      isnt x is same = same ∙ ap not is
+
+  pub unlinked_here : IsTotalOrder cmp → CmpEqualImpliesEq cmp → DriverStands cmp wire v → (t word : ℕ) (p : C) → IsChosen cmp t word p node →
+      link_of cmp links p ≡ None
+  unlinked_here total exact at t word p chosen = at.stands.links p
+      ∙ go (link (base_of cmp wire at.given at.pace) p at.history) _ (unreserved total exact at t word p chosen)
+    where
+      go : (o : Option Held) (y : Bool) → (is_some o || y) ≡ false → o ≡ None
+      go None y isnt = refl
+      go (Some held) y isnt = absurd cc
+
+  -- .. and no grant
+  pub ungranted_here : IsTotalOrder cmp → CmpEqualImpliesEq cmp → DriverStands cmp wire v → (t word : ℕ) (p : C) → IsChosen cmp t word p node →
+      grant_of cmp dial.grants p ≡ None
+  ungranted_here total exact at t word p chosen = at.stands.grants p
+      ∙ go (is_some (link (base_of cmp wire at.given at.pace) p at.history)) (grant_at (base_of cmp wire at.given at.pace).made.directory p at.history)
+      (unreserved total exact at t word p chosen)
+    where
+      go : (x : Bool) (o : Option Duration) → (x || is_some o) ≡ false → o ≡ None
+      go true o isnt = absurd cc
+      go false None isnt = refl
+      go false (Some granted) isnt = absurd cc
 
   -- a dial began
-  pub begins : (p : C) (t draw : Duration) (word : ℕ) (ingress : Ingress) (node2 : NodeView C S) (dial2 : NextDial) (reads2 : List (ℕ × MetersView))
+  pub begins : (p : C) (t draw : Duration) (word : ℕ) (ingress : Ingress) (node2 : NodeView C S) (dial2 : NextDial C) (reads2 : List (ℕ × MetersView))
       (links2 : List (C × Held)) (actions2 : List (Action C)) (next2 : ℕ) → IsAtOnce dial dial2 → latest ≡ as_nanos t → is_to_dial (as_nanos t) v ≡ true →
       IsChosen cmp (as_nanos t) word p node → IsGranted cmp p (as_nanos t) (as_nanos draw) node → as_nanos draw ≡ jitter_of cooldown word →
       IsAddress cmp p ingress node → Makes cmp (Dial p (as_nanos t) (as_nanos draw) ∷ []) node node2 →
       ((j : ℕ) → reads_of reads2 j ≡ (if j == next then Some (unread (length pace.channels.items + length pace.channels.items)) else reads_of reads j)) →
       ((q : C) → link_of cmp links2 q ≡ (if is_at (cmp p) q then Some (dial_with next t) else link_of cmp links q)) →
+      ((q : C) → grant_of cmp dial2.grants q ≡ (if is_at (cmp p) q then Some t else grant_of cmp dial.grants q)) →
       ((way : Direction) → count_of way links2 ≡ count_of way links + (if is_way way Dialing then 1 else 0)) →
       actions2 ≡ actions ++ dialing next p ingress → next2 ≡ next + 1 →
       Does cmp wire (Happening.Dialed next p t draw word ingress) v (seen node2 pace greeting cooldown dial2 latest next2 arrivals answers reads2 links2 actions2)
-  begins p t draw word ingress node2 dial2 reads2 links2 actions2 next2 once now due chosen granted draws address made empty tied more said rises = record {
+  begins p t draw word ingress node2 dial2 reads2 links2 actions2 next2 once now due chosen granted draws address made empty tied given_to more said rises = record {
     goes = λ given pace2 h at.
         let b = base_of cmp wire given pace2 in
         let stood = slotted at.node in
@@ -224,21 +241,21 @@ module _ {C S : Type 0} (cmp : C → C → Ordering) (wire : Wire C S) (node : N
           address = address given (calls_of h) stood;
           granted = granted given (calls_of h) stood;
         })
-        (let is = now in grind (arith)) (unslotted (made given (calls_of h) stood)) empty tied more);
+        (let is = now in grind (arith)) (unslotted (made given (calls_of h) stood)) empty tied given_to more);
   }
 
   -- memory was refused for one
-  pub undials : (t : Duration) (dial2 : NextDial) → dial2.from ≡ dial.from → dial2.retry ≡ as_nanos t + max (as_nanos pace.tick) 1 →
+  pub undials : (t : Duration) (dial2 : NextDial C) → dial2.from ≡ dial.from → dial2.grants ≡ dial.grants → dial2.retry ≡ as_nanos t + max (as_nanos pace.tick) 1 →
       latest ≡ as_nanos t → is_to_dial (as_nanos t) v ≡ true → MayBeDialled cmp (as_nanos t) node →
       Does cmp wire (Happening.Undialed t) v (seen node pace greeting cooldown dial2 latest next arrivals answers reads links actions)
-  undials t dial2 same tried now due somebody = record {
+  undials t dial2 same kept tried now due somebody = record {
     goes = λ given pace2 h at.
         let b = base_of cmp wire given pace2 in
         let parts = due_parts (as_nanos t) v due in
         subst (DriverStandsAt b (Happening.Undialed t ∷ h))
         (viewed (record v { next_dial = dial2; latest = as_nanos t }) node pace greeting cooldown dial2 latest next arrivals answers reads links actions
         refl refl refl refl refl (sym now) refl refl refl refl refl refl)
-        (Standing.undials b h v at t dial2 same (tried ∙ ap (λ (q : Pace). as_nanos t + max (as_nanos q.tick) 1) at.pace) (
+        (Standing.undials b h v at t dial2 same kept (tried ∙ ap (λ (q : Pace). as_nanos t + max (as_nanos q.tick) 1) at.pace) (
           sym (dials_is node pace greeting cooldown dial latest next arrivals answers reads links actions b h at) ∙ parts.1,
           subst (λ r. r ≤ as_nanos t) at.retry parts.0,
           somebody given (calls_of h) (slotted at.node),
@@ -246,44 +263,44 @@ module _ {C S : Type 0} (cmp : C → C → Ordering) (wire : Wire C S) (node : N
   }
 
   -- it is looked for somebody to dial later, since nobody may be dialled now
-  pub looks : (t : Duration) (dial2 : NextDial) → dial2.retry ≡ dial.retry → latest ≡ as_nanos t → StaysQuiet cmp (as_nanos t) (option_map as_nanos dial2.from) node →
+  pub looks : (t : Duration) (dial2 : NextDial C) → dial2.retry ≡ dial.retry → dial2.grants ≡ dial.grants → latest ≡ as_nanos t → StaysQuiet cmp (as_nanos t) (option_map as_nanos dial2.from) node →
       DoesAll cmp wire [] v (seen node pace greeting cooldown dial2 latest next arrivals answers reads links actions)
-  looks t dial2 same now quiet given pace2 h at = let b = base_of cmp wire given pace2 in
+  looks t dial2 same kept now quiet given pace2 h at = let b = base_of cmp wire given pace2 in
       Standing.looks b h v at dial2
       (subst (λ k. IsQuietIn b.made.directory (world_after b.made.directory (calls_of h)) k (option_map as_nanos dial2.from)) (sym now ∙ at.latest)
-      (quiet given (calls_of h) (slotted at.node))) same
+      (quiet given (calls_of h) (slotted at.node))) same kept
 
-  pub quiet_on : DriverStands cmp wire v → (t : Duration) (dial2 : NextDial) → dial2.retry ≡ dial.retry → latest ≡ as_nanos t →
+  pub quiet_on : DriverStands cmp wire v → (t : Duration) (dial2 : NextDial C) → dial2.retry ≡ dial.retry → dial2.grants ≡ dial.grants → latest ≡ as_nanos t →
       StaysQuiet cmp (as_nanos t) (option_map as_nanos dial2.from) node → DriverStands cmp wire (seen node pace greeting cooldown dial2 latest next arrivals answers reads links actions)
-  quiet_on at t dial2 same now quiet = record {
+  quiet_on at t dial2 same kept now quiet = record {
     given = at.given;
     pace = at.pace;
     history = at.history;
-    stands = looks t dial2 same now quiet at.given at.pace at.history at.stands;
+    stands = looks t dial2 same kept now quiet at.given at.pace at.history at.stands;
   }
 
   -- memory was refused: nobody is to be dialled until it is tried again
-  pub dial_fails : (t : Duration) (word : ℕ) (dial2 : NextDial) → dial2.from ≡ dial.from → dial2.retry ≡ as_nanos t + max (as_nanos pace.tick) 1 →
+  pub dial_fails : (t : Duration) (word : ℕ) (dial2 : NextDial C) → dial2.from ≡ dial.from → dial2.grants ≡ dial.grants → dial2.retry ≡ as_nanos t + max (as_nanos pace.tick) 1 →
       latest ≡ as_nanos t → is_to_dial (as_nanos t) v ≡ true → MayBeDialled cmp (as_nanos t) node →
       DialsOne cmp wire t word dialed.Memory v (seen node pace greeting cooldown dial2 latest next arrivals answers reads links actions)
-  dial_fails t word dial2 same tried now due somebody =
+  dial_fails t word dial2 same kept tried now due somebody =
       let is : seen node pace greeting cooldown dial2 latest next arrivals answers reads links actions ≡ record v { next_dial = record dial { retry = dial2.retry } }
-      = ap (λ f. record v { next_dial = record dial2 { from = f } }) same in
+      = (λ i. record v { next_dial = record dial { from = same i; retry = dial2.retry; grants = kept i } }) in
       let later : as_nanos t < dial2.retry = (let r = tried in grind (arith)) in (
         due,
-        undials t dial2 same tried now due somebody,
+        undials t dial2 same kept tried now due somebody,
         (dial2.retry, is),
         ap (is_to_dial (as_nanos t)) is ∙ none_till_retry (as_nanos t) dial2.retry v later,
       )
 
   -- nobody may be dialled: nobody is to be until somebody may
-  pub dial_rests : (t : Duration) (word : ℕ) (dial2 : NextDial) → dial2.retry ≡ dial.retry → latest ≡ as_nanos t → is_to_dial (as_nanos t) v ≡ true →
+  pub dial_rests : (t : Duration) (word : ℕ) (dial2 : NextDial C) → dial2.retry ≡ dial.retry → dial2.grants ≡ dial.grants → latest ≡ as_nanos t → is_to_dial (as_nanos t) v ≡ true →
       is_before (as_nanos t) (option_map as_nanos dial2.from) ≡ true → StaysQuiet cmp (as_nanos t) (option_map as_nanos dial2.from) node →
       DialsOne cmp wire t word dialed.Nobody v (seen node pace greeting cooldown dial2 latest next arrivals answers reads links actions)
-  dial_rests t word dial2 same now due later quiet =
+  dial_rests t word dial2 same kept now due later quiet =
       let is : seen node pace greeting cooldown dial2 latest next arrivals answers reads links actions ≡ record v { next_dial = record dial { from = dial2.from } }
-      = ap (λ r. record v { next_dial = record dial2 { retry = r } }) same in (
-        looks t dial2 same now quiet,
+      = (λ i. record v { next_dial = record dial { from = dial2.from; retry = same i; grants = kept i } }) in (
+        looks t dial2 same kept now quiet,
         (dial2.from, is),
         ap (is_to_dial (as_nanos t)) is ∙ none_till_query (as_nanos t) dial2.from v later,
         λ none. absurd (never due none),
@@ -318,13 +335,14 @@ module _ {C S : Type 0} (cmp : C → C → Ordering) (wire : Wire C S) (node : N
     none_to_ask = of_links (λ h. is_to_ask (as_nanos pace.tick) (as_nanos t) h ≡ false) refl
 
   -- a dial began, and nothing else is due that wasn't
-  pub begins_one : (p : C) (t draw : Duration) (word : ℕ) (ingress : Ingress) (node2 : NodeView C S) (dial2 : NextDial) (reads2 : List (ℕ × MetersView))
+  pub begins_one : (p : C) (t draw : Duration) (word : ℕ) (ingress : Ingress) (node2 : NodeView C S) (dial2 : NextDial C) (reads2 : List (ℕ × MetersView))
       (links2 : List (C × Held)) (actions2 : List (Action C)) (next2 : ℕ) →
       Does cmp wire (Happening.Dialed next p t draw word ingress) v (seen node2 pace greeting cooldown dial2 latest next2 arrivals answers reads2 links2 actions2) →
       ((q : C) → link_of cmp links2 q ≡ (if is_at (cmp p) q then Some (dial_with next t) else link_of cmp links q)) →
+      ((q : C) → grant_of cmp dial2.grants q ≡ (if is_at (cmp p) q then Some t else grant_of cmp dial.grants q)) →
       ((way : Direction) → count_of way links2 ≡ count_of way links + (if is_way way Dialing then 1 else 0)) →
       BeginsOne cmp wire t word p v (seen node2 pace greeting cooldown dial2 latest next2 arrivals answers reads2 links2 actions2)
-  begins_one p t draw word ingress node2 dial2 reads2 links2 actions2 next2 does tied more = record {
+  begins_one p t draw word ingress node2 dial2 reads2 links2 actions2 next2 does tied given_to more = record {
     number = next;
     draw = draw;
     ingress = ingress;
@@ -333,8 +351,17 @@ module _ {C S : Type 0} (cmp : C → C → Ordering) (wire : Wire C S) (node : N
     pace = refl;
     late = λ none. record { streams = none.streams; links = none_late p next t links2 tied none.links };
     to_ask = λ none. none_to_ask p next t links2 tied none;
+    kept = λ none q. none_kept q none;
     more = more Dialing;
   }
+    where
+      none_kept : (q : C) → NoneCooled cmp (as_nanos t) v → is_cooled cooldown (as_nanos t) (kept_grant cmp links2 dial2.grants q) ≡ false
+      none_kept q none = (λ i. is_cooled cooldown (as_nanos t) (unless_linked (tied q i) (given_to q i))) ∙ go (is_at (cmp p) q)
+        where
+          go : (x : Bool) → is_cooled cooldown (as_nanos t) (unless_linked (if x then Some (dial_with next t) else link_of cmp links q)
+              (if x then Some t else grant_of cmp dial.grants q)) ≡ false
+          go true = refl
+          go false = none q
 
 -- how `proved` is answered of a dial
 module _ {C S : Type 0} (cmp : C → C → Ordering) (wire : Wire C S) (n : ℕ) (p : C) (now : ℕ) (v w v2 : DriverView C S) (same : v ≡ w) where

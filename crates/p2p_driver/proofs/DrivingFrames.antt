@@ -22,9 +22,10 @@ use Rattle.p2p_driver.specs.Answers.{AnswersView}
 use Rattle.p2p_driver.specs.Drivers.{DriverView, DriverStandsAt, IsHeard, Does, seen, base_of}
 use Rattle.p2p_driver.specs.Frames.{Cause, Outcome, Shares, IsOutcome, ComesFirst, ComesNext, ComesOf, ComesOfVerdicts, IsAsDialer, owed_after, is_greeting_frame, is_unasked}
 use Rattle.p2p_driver.specs.Frames.Cause.{OfFrame, OfVerdicts}
-use Rattle.p2p_driver.specs.Happenings.{Happening, calls_of, calls_for, said_as}
+use Rattle.p2p_driver.specs.Happenings.{Happening, calls_of, said_as}
 use Rattle.p2p_driver.specs.Hearing.{Follows, IsServed, IsMessage, IsServable, TellsNext}
 use Rattle.p2p_driver.specs.Links.{link_of, count_of, is_dialing, is_dialer, hearing, has_room, has_room_at, is_expected, is_unexpected, is_timed}
+use Rattle.p2p_driver.specs.Grants.{grant_of}
 use Rattle.p2p_driver.specs.Meters.{MetersView}
 use Rattle.p2p_driver.specs.Reading.{read_by, AreMetered, IsPaced}
 use Rattle.p2p_driver.specs.Steps.{MakesFor, IsDone, IsBlock, IsBlocked}
@@ -45,7 +46,7 @@ use Rattle.p2p_driver.specs.declared.pace.Pace.{Pace}
 use Rattle.p2p_driver.specs.declared.next_dial.NextDial.{NextDial}
 use Rattle.p2p_driver.proofs.Driving.{slotted, unslotted}
 use Rattle.p2p_driver.proofs.Standing
-use Rattle.p2p_driver.proofs.Standing.{IsAtOnce, IsSought}
+use Rattle.p2p_driver.proofs.Standing.{IsSoon, IsSoughtFor}
 
 module _ {C S : Type 0} (cmp : C → C → Ordering) (wire : Wire C S) (node : NodeView C S) where
   -- what is so by the limits and the verifier of a node is so wherever it stands
@@ -99,7 +100,7 @@ module _ {C S : Type 0} (cmp : C → C → Ordering) (wire : Wire C S) (node : N
       go phase.Closing isnt stands comes = absurd (isnt refl)
 
 module _ {C S : Type 0} (cmp : C → C → Ordering) (wire : Wire C S) (node : NodeView C S) (pace : Pace)
-    (greeting : List ℕ) (cooldown : ℕ) (dial : NextDial) (latest next : ℕ) (arrivals : List (Arrival C)) (answers : AnswersView) (reads : List (ℕ × MetersView))
+    (greeting : List ℕ) (cooldown : ℕ) (dial : NextDial C) (latest next : ℕ) (arrivals : List (Arrival C)) (answers : AnswersView) (reads : List (ℕ × MetersView))
     (links : List (C × Held)) (actions : List (Action C)) where
   abbrev v : DriverView C S
   v = seen node pace greeting cooldown dial latest next arrivals answers reads links actions
@@ -116,8 +117,8 @@ module _ {C S : Type 0} (cmp : C → C → Ordering) (wire : Wire C S) (node : N
 
   -- the peer of a link was heard, or may be
   pub hears_as : (n : ℕ) (p : C) (held : Held) (t : Duration) (owed : ℕ) (cause : Cause) (outcome : Outcome C S)
-      (node2 : NodeView C S) (dial2 : NextDial) (reads2 : List (ℕ × MetersView)) (links2 : List (C × Held)) (actions2 : List (Action C)) →
-      IsAsDialer (is_dialer held) outcome → IsSought (calls_for p t outcome) dial dial2 →
+      (node2 : NodeView C S) (dial2 : NextDial C) (reads2 : List (ℕ × MetersView)) (links2 : List (C × Held)) (actions2 : List (Action C)) →
+      IsAsDialer (is_dialer held) outcome → IsSoughtFor cmp p t outcome dial dial2 →
       link_of cmp links p ≡ Some held → held.number ≡ n → latest ≤ as_nanos t → Outs cmp wire v.node p held cause outcome →
       Paces n t held cause outcome → owed ≡ owed_after held.phase outcome pace.owed held.owed →
       AtEach cmp node (λ m calls. IsDone wire m pace.refresh held.asked calls p t outcome) → MakesFor cmp p t outcome node node2 →
@@ -146,8 +147,8 @@ module _ {C S : Type 0} (cmp : C → C → Ordering) (wire : Wire C S) (node : N
 
   -- .. and no frame is read
   pub hears : (n : ℕ) (p : C) (held : Held) (t : Duration) (owed : ℕ) (cause : Cause) (outcome : Outcome C S)
-      (node2 : NodeView C S) (dial2 : NextDial) (links2 : List (C × Held)) (actions2 : List (Action C)) →
-      IsAsDialer (is_dialer held) outcome → IsSought (calls_for p t outcome) dial dial2 →
+      (node2 : NodeView C S) (dial2 : NextDial C) (links2 : List (C × Held)) (actions2 : List (Action C)) →
+      IsAsDialer (is_dialer held) outcome → IsSoughtFor cmp p t outcome dial dial2 →
       link_of cmp links p ≡ Some held → held.number ≡ n → latest ≤ as_nanos t → Outs cmp wire v.node p held cause outcome →
       Paces n t held cause outcome → owed ≡ owed_after held.phase outcome pace.owed held.owed →
       AtEach cmp node (λ m calls. IsDone wire m pace.refresh held.asked calls p t outcome) → MakesFor cmp p t outcome node node2 →
@@ -376,7 +377,7 @@ served_read cmp wire n p owed frame wall v f = let is = served_open cmp wire v.n
     subst (λ ph. IsRead ph f.held.owed frame) (sym is.0) (is.1, is.2)
 
 -- parts that are as they were
-pub same_parts : {C S : Type 0} (node node2 : NodeView C S) (pace : Pace) (greeting : List ℕ) (cooldown : ℕ) (dial : NextDial) (latest next : ℕ) (arrivals : List (Arrival C))
+pub same_parts : {C S : Type 0} (node node2 : NodeView C S) (pace : Pace) (greeting : List ℕ) (cooldown : ℕ) (dial : NextDial C) (latest next : ℕ) (arrivals : List (Arrival C))
     (answers : AnswersView) (reads : List (ℕ × MetersView)) (links : List (C × Held)) (actions actions2 : List (Action C)) → node2 ≡ node → actions2 ≡ actions →
     seen node2 pace greeting cooldown dial latest next arrivals answers reads links actions2 ≡ seen node pace greeting cooldown dial latest next arrivals answers reads links actions
 same_parts node node2 pace greeting cooldown dial latest next arrivals answers reads links actions actions2 same said i =
@@ -417,13 +418,13 @@ bare cmp node P each given calls at = each given calls (slotted at)
 
 -- WHAT A DRIVER DOES OF A FRAME
 module _ {C S : Type 0} (cmp : C → C → Ordering) (wire : Wire C S) (node : NodeView C S) (pace : Pace)
-    (greeting : List ℕ) (cooldown : ℕ) (dial : NextDial) (latest next : ℕ) (arrivals : List (Arrival C)) (answers : AnswersView) (reads : List (ℕ × MetersView))
+    (greeting : List ℕ) (cooldown : ℕ) (dial : NextDial C) (latest next : ℕ) (arrivals : List (Arrival C)) (answers : AnswersView) (reads : List (ℕ × MetersView))
     (links : List (C × Held)) (actions : List (Action C)) (n : ℕ) (p : C) (owed : ℕ) (frame : List ℕ) (wall t : Duration)
     (after : latest ≤ as_nanos t) where
   abbrev stood : DriverView C S
   stood = seen node pace greeting cooldown dial latest next arrivals answers reads links actions
 
-  abbrev left : NodeView C S → NextDial → List (C × Held) → List (Action C) → DriverView C S
+  abbrev left : NodeView C S → NextDial C → List (C × Held) → List (Action C) → DriverView C S
   left node2 dial2 links2 actions2 = seen node2 pace greeting cooldown dial2 (as_nanos t) next arrivals answers reads links2 actions2
 
   abbrev Found : Came → Type 0
@@ -441,7 +442,7 @@ module _ {C S : Type 0} (cmp : C → C → Ordering) (wire : Wire C S) (node : N
     pub waits_on : (w : Waiting) (owed2 : ℕ) → Found (came.Waits w) → owed2 ≡ owed - 1 → KeptAs (hearing t owed2 (Some w)) links2 → actions2 ≡ actions →
         Does cmp wire (Happening.Heard n p t owed2 (OfFrame frame wall) (Outcome.Waits w)) stood (left node dial links2 actions2)
     waits_on w owed2 f less kept same = hears cmp wire node pace greeting cooldown dial latest next arrivals answers reads links actions n p f.held t owed2
-        (OfFrame frame wall) (Outcome.Waits w) node dial links2 actions2 tt (inl (refl, refl)) f.linked f.number after
+        (OfFrame frame wall) (Outcome.Waits w) node dial links2 actions2 tt (inl (refl, refl, refl), λ q. refl) f.linked f.number after
         (waits_out cmp wire stood.node p f.held frame wall f.none w f.is_seen) (λ given pace2 h at. f.expected) (less ∙ ap (λ k. k - 1) (sym f.owed_is))
         (λ given calls at. tt) unmade (λ j place. refl) (record { links_are = kept; counts = counts; said = said_none actions actions2 same }) tt
 
@@ -449,7 +450,7 @@ module _ {C S : Type 0} (cmp : C → C → Ordering) (wire : Wire C S) (node : N
     pub ignores_on : Found came.Ignored → KeptAs (hearing t owed None) links2 → actions2 ≡ actions →
         Does cmp wire (Happening.Heard n p t owed (OfFrame frame wall) Outcome.Ignores) stood (left node dial links2 actions2)
     ignores_on f kept same = hears cmp wire node pace greeting cooldown dial latest next arrivals answers reads links actions n p f.held t owed
-        (OfFrame frame wall) Outcome.Ignores node dial links2 actions2 tt (inl (refl, refl)) f.linked f.number after
+        (OfFrame frame wall) Outcome.Ignores node dial links2 actions2 tt (inl (refl, refl, refl), λ q. refl) f.linked f.number after
         (ignores_out cmp wire stood.node p f.held frame wall f.none f.is_seen) (λ given pace2 h at. f.expected) (sym f.owed_is)
         (λ given calls at. tt) unmade (λ j place. refl) (record { links_are = kept; counts = counts; said = said_none actions actions2 same }) tt
 
@@ -458,7 +459,7 @@ module _ {C S : Type 0} (cmp : C → C → Ordering) (wire : Wire C S) (node : N
         held.owed ≡ owed → is_expected frame held ≡ true → Outs cmp wire stood.node p held (OfFrame frame wall) (Outcome.Delivers message) → KeptAs (hearing t owed None) links2 → actions2 ≡ actions →
         Does cmp wire (Happening.Heard n p t owed (OfFrame frame wall) (Outcome.Delivers message)) stood (left node dial links2 actions2)
     delivers_on message held linked number owed_is expected out kept same = hears cmp wire node pace greeting cooldown dial latest next arrivals answers reads links actions n p held t owed
-        (OfFrame frame wall) (Outcome.Delivers message) node dial links2 actions2 tt (inl (refl, refl)) linked number after out (λ given pace2 h at. expected) (sym owed_is)
+        (OfFrame frame wall) (Outcome.Delivers message) node dial links2 actions2 tt (inl (refl, refl, refl), λ q. refl) linked number after out (λ given pace2 h at. expected) (sym owed_is)
         (λ given calls at. tt) unmade (λ j place. refl) (record { links_are = kept; counts = counts; said = said_none actions actions2 same }) tt
 
   -- an info is of the future
@@ -466,17 +467,17 @@ module _ {C S : Type 0} (cmp : C → C → Ordering) (wire : Wire C S) (node : N
       Follows {S = S} cmp n p t owed Outcome.IsEarly links links2 actions actions2 →
       Does cmp wire (Happening.Heard n p t owed (OfFrame frame wall) Outcome.IsEarly) stood (left node dial links2 actions2)
   early_on links2 actions2 f follows = hears cmp wire node pace greeting cooldown dial latest next arrivals answers reads links actions n p f.held t owed
-      (OfFrame frame wall) Outcome.IsEarly node dial links2 actions2 tt (inl (refl, refl)) f.linked f.number after
+      (OfFrame frame wall) Outcome.IsEarly node dial links2 actions2 tt (inl (refl, refl, refl), λ q. refl) f.linked f.number after
       (early_out cmp wire stood.node p f.held frame wall f.none f.is_seen) (λ given pace2 h at. f.expected) (sym f.owed_is)
       (λ given calls at. tt) unmade (λ j place. refl) follows tt
 
   -- a rule is broken
-  pub breaks_on : (x : Breach) (blocked : Option Bool) (node2 : NodeView C S) (dial2 : NextDial) (links2 : List (C × Held)) (actions2 : List (Action C)) → IsAtOnce dial dial2 → Found (came.Breach x) →
+  pub breaks_on : (x : Breach) (blocked : Option Bool) (node2 : NodeView C S) (dial2 : NextDial C) (links2 : List (C × Held)) (actions2 : List (Action C)) → IsSoon dial dial2 → Found (came.Breach x) →
       MakesFor cmp p t (Outcome.Breaks x blocked) node node2 → IsBlocked cmp p (as_nanos t) blocked node →
       Follows {S = S} cmp n p t owed (Outcome.Breaks x blocked) links links2 actions actions2 →
       Does cmp wire (Happening.Heard n p t owed (OfFrame frame wall) (Outcome.Breaks x blocked)) stood (left node2 dial2 links2 actions2)
   breaks_on x blocked node2 dial2 links2 actions2 once f made blocks follows = hears cmp wire node pace greeting cooldown dial latest next arrivals answers reads links actions n p f.held t owed
-      (OfFrame frame wall) (Outcome.Breaks x blocked) node2 dial2 links2 actions2 tt (inr once) f.linked f.number after
+      (OfFrame frame wall) (Outcome.Breaks x blocked) node2 dial2 links2 actions2 tt (inr once.0, λ q. ap (λ gs. grant_of cmp gs q) once.1) f.linked f.number after
       (breaks_out cmp wire stood.node p f.held frame wall f.none x blocked f.is_seen) (λ given pace2 h at. f.expected) (sym f.owed_is)
       (blocked_done cmp wire node p t x blocked blocks) made (λ j place. refl) follows tt
 
@@ -485,8 +486,8 @@ module _ {C S : Type 0} (cmp : C → C → Ordering) (wire : Wire C S) (node : N
   servable_on f = (served_open cmp wire stood.node p f.held frame wall f.none f.is_seen).3
 
   -- what its node answers comes of it
-  pub serves_on : (outcome : Outcome C S) (node2 : NodeView C S) (dial2 : NextDial) (links2 : List (C × Held)) (actions2 : List (Action C)) →
-      ((dials : Bool) → IsAsDialer dials outcome) → IsSought (calls_for p t outcome) dial dial2 → (f : Found came.Served) →
+  pub serves_on : (outcome : Outcome C S) (node2 : NodeView C S) (dial2 : NextDial C) (links2 : List (C × Held)) (actions2 : List (Action C)) →
+      ((dials : Bool) → IsAsDialer dials outcome) → IsSoughtFor cmp p t outcome dial dial2 → (f : Found came.Served) →
       ((owed : ℕ) (l : PayloadConfig) (j : Judge C S) (shares : Shares C S) → is_greeting_frame frame ≡ false → is_unasked owed frame ≡ false →
       ComesOf cmp wire l j shares frame wall outcome → ComesNext cmp wire l j shares owed frame wall outcome) →
       IsServed cmp wire frame wall outcome node → owed ≡ owed_after f.held.phase outcome pace.owed f.held.owed →

@@ -16,6 +16,7 @@ use Rattle.p2p_driver.specs.Answers.{AnswersView, IsAllowedAt, IsKeptAt}
 use Rattle.p2p_driver.specs.Drivers.{DriverView, DriverStands, DriverStandsAt, Does, seen, base_of}
 use Rattle.p2p_driver.specs.Frames.{Outcome, IsOutcome, is_of_head}
 use Rattle.p2p_driver.specs.Frames.Cause.{OfHead}
+use Rattle.p2p_driver.specs.Grants.{grant_of}
 use Rattle.p2p_driver.specs.Happenings.{Happening}
 use Rattle.p2p_driver.specs.Heads.{kind_of}
 use Rattle.p2p_driver.specs.Hearing.{Follows}
@@ -43,7 +44,7 @@ use Rattle.p2p_driver.proofs.Kept.{kept_later}
 use Rattle.p2p_driver.proofs.Lasting.{metered_by}
 use Rattle.p2p_driver.proofs.Metered.{metered_free, metered_reads}
 use Rattle.p2p_driver.proofs.Standing
-use Rattle.p2p_driver.proofs.Standing.{IsAtOnce, IsSought}
+use Rattle.p2p_driver.proofs.Standing.{IsSoon, IsSoughtFor}
 
 -- a link that there is, on which a frame of a kind is to come
 pub record FoundTo {C S : Type 0} (cmp : C → C → Ordering) (longest n : ℕ) (p : C) (owed : ℕ) (head : List ℕ) (size : ℕ) (k : Kind)
@@ -96,7 +97,7 @@ the_one P None some = absurd some
 the_one P (Some a) some = (a, refl, some)
 
 module _ {C S : Type 0} (cmp : C → C → Ordering) (wire : Wire C S) (node : NodeView C S) (pace : Pace)
-    (greeting : List ℕ) (cooldown : ℕ) (dial : NextDial) (latest next : ℕ) (arrivals : List (Arrival C)) (answers : AnswersView) (reads : List (ℕ × MetersView))
+    (greeting : List ℕ) (cooldown : ℕ) (dial : NextDial C) (latest next : ℕ) (arrivals : List (Arrival C)) (answers : AnswersView) (reads : List (ℕ × MetersView))
     (links : List (C × Held)) (actions : List (Action C)) where
   abbrev v : DriverView C S
   v = seen node pace greeting cooldown dial latest next arrivals answers reads links actions
@@ -137,8 +138,8 @@ module _ {C S : Type 0} (cmp : C → C → Ordering) (wire : Wire C S) (node : N
     )
 
     -- a rule is broken
-    pub breaks_on : (k : Kind) (x : Breach) (blocked : Option Bool) (node2 : NodeView C S) (dial2 : NextDial) (links2 : List (C × Held)) (actions2 : List (Action C)) →
-        IsAtOnce dial dial2 → Found k → is_of_head {C = C} {S = S} (Outcome.Breaks x blocked) ≡ true →
+    pub breaks_on : (k : Kind) (x : Breach) (blocked : Option Bool) (node2 : NodeView C S) (dial2 : NextDial C) (links2 : List (C × Held)) (actions2 : List (Action C)) →
+        IsSoon dial dial2 → Found k → is_of_head {C = C} {S = S} (Outcome.Breaks x blocked) ≡ true →
         ((pace2 : Pace) (h : List (Happening C S)) → ComesOfKind pace2 h n (as_nanos t) k (looked_of head size) (Outcome.Breaks x blocked)) →
         MakesFor cmp p t (Outcome.Breaks x blocked) node node2 → IsBlocked cmp p (as_nanos t) blocked node →
         Follows {S = S} cmp n p t owed (Outcome.Breaks x blocked) links links2 actions actions2 →
@@ -146,7 +147,7 @@ module _ {C S : Type 0} (cmp : C → C → Ordering) (wire : Wire C S) (node : N
         (seen node2 pace greeting cooldown dial2 (as_nanos t) next arrivals answers reads links2 actions2)
     breaks_on k x blocked node2 dial2 links2 actions2 once f may comes made blocks follows =
         hears cmp wire node pace greeting cooldown dial latest next arrivals answers reads links actions n p f.held t owed
-        (OfHead longest head size) (Outcome.Breaks x blocked) node2 dial2 links2 actions2 tt (inr once) f.linked f.number after
+        (OfHead longest head size) (Outcome.Breaks x blocked) node2 dial2 links2 actions2 tt (inr once.0, λ q. ap (λ gs. grant_of cmp gs q) once.1) f.linked f.number after
         (outs k f (Outcome.Breaks x blocked) may) (paces k f (Outcome.Breaks x blocked) (λ given pace2 h at. comes pace2 h)) (sym f.owed_is)
         (blocked_done cmp wire node p t x blocked blocks) made (λ j place. refl) follows tt
 
@@ -156,7 +157,7 @@ module _ {C S : Type 0} (cmp : C → C → Ordering) (wire : Wire C S) (node : N
         Does cmp wire (Happening.Heard n p t owed (OfHead longest head size) Outcome.LacksChannel) v
         (seen node pace greeting cooldown dial (as_nanos t) next arrivals answers reads links2 actions2)
     lacks_on links2 actions2 f follows = hears cmp wire node pace greeting cooldown dial latest next arrivals answers reads links actions n p f.held t owed
-        (OfHead longest head size) Outcome.LacksChannel node dial links2 actions2 tt (inl (refl, refl)) f.linked f.number after
+        (OfHead longest head size) Outcome.LacksChannel node dial links2 actions2 tt (inl (refl, refl, refl), λ q. refl) f.linked f.number after
         (outs kind.NoChannel f Outcome.LacksChannel refl) (paces kind.NoChannel f Outcome.LacksChannel (λ given pace2 h at. tt)) (sym f.owed_is)
         (λ given calls at. tt) unmade (λ j place. refl) follows tt
 
@@ -168,7 +169,7 @@ module _ {C S : Type 0} (cmp : C → C → Ordering) (wire : Wire C S) (node : N
     free_on links2 actions2 f kept count same =
         let outcome : Outcome C S = Outcome.Reads kind.Greeting (looked_of head size) in
         hears_as cmp wire node pace greeting cooldown dial latest next arrivals answers reads links actions n p f.held t owed
-        (OfHead longest head size) outcome node dial reads links2 actions2 tt (inl (refl, refl)) f.linked f.number after
+        (OfHead longest head size) outcome node dial reads links2 actions2 tt (inl (refl, refl, refl), λ q. refl) f.linked f.number after
         (outs kind.Greeting f outcome refl) (paces kind.Greeting f outcome (λ given pace2 h at. (refl, refl))) (sym f.owed_is)
         (λ given calls at. tt) unmade
         (λ given pace2 h at. metered_free pace2 (as_nanos t) n p t owed (OfHead longest head size) (looked_of head size) h reads
@@ -221,7 +222,7 @@ module _ {C S : Type 0} (cmp : C → C → Ordering) (wire : Wire C S) (node : N
       reads_on reads2 links2 actions2 m m2 f old new takes others kept count same =
           let outcome : Outcome C S = Outcome.Reads (kind_at_rate place) (looked_of head size) in
           hears_as cmp wire node pace greeting cooldown dial latest next arrivals answers reads links actions n p f.held t owed
-          (OfHead longest head size) outcome node dial reads2 links2 actions2 tt (inl (refl, refl)) f.linked f.number after
+          (OfHead longest head size) outcome node dial reads2 links2 actions2 tt (inl (refl, refl, refl), λ q. refl) f.linked f.number after
           (outs (kind_at_rate place) f outcome refl)
           (paces (kind_at_rate place) f outcome (λ given pace2 h at. by_rate (looked_of head size) outcome pace2 h (
             refl,
@@ -246,7 +247,7 @@ module _ {C S : Type 0} (cmp : C → C → Ordering) (wire : Wire C S) (node : N
           subst (λ rs. Does cmp wire (Happening.Heard n p t owed (OfHead longest head size) outcome) v
           (seen node pace greeting cooldown dial (as_nanos t) next arrivals answers rs links2 actions2)) (sym unread)
           (hears cmp wire node pace greeting cooldown dial latest next arrivals answers reads links actions n p f.held t owed
-          (OfHead longest head size) outcome node dial links2 actions2 tt (inl (refl, refl)) f.linked f.number after
+          (OfHead longest head size) outcome node dial links2 actions2 tt (inl (refl, refl, refl), λ q. refl) f.linked f.number after
           (outs (kind_at_rate place) f outcome refl)
           (paces (kind_at_rate place) f outcome (λ given pace2 h at. by_rate (looked_of head size) outcome pace2 h
           (subst (λ o. IsSomeAnd o (λ rate. IsDelayed rate (frames_read n place h) (as_nanos t) next2)) (sym (rated_by given pace2 h at))

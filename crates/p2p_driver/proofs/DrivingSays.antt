@@ -40,7 +40,7 @@ not_early rate now kept happened None early is may = refl
 not_early rate now kept happened (Some next) early is may = absurd (early.refused happened is (allowed_once rate happened now (may happened is)))
 
 module _ {C S : Type 0} (cmp : C → C → Ordering) (wire : Wire C S) (node : NodeView C S) (pace : Pace)
-    (greeting : List ℕ) (cooldown : ℕ) (dial : NextDial) (latest next : ℕ) (arrivals : List (Arrival C)) (answers : AnswersView) (reads : List (ℕ × MetersView))
+    (greeting : List ℕ) (cooldown : ℕ) (dial : NextDial C) (latest next : ℕ) (arrivals : List (Arrival C)) (answers : AnswersView) (reads : List (ℕ × MetersView))
     (links : List (C × Held)) (actions : List (Action C)) (exact : CmpEqualImpliesEq cmp) (n : ℕ) (p : C) (held : Held)
     (linked : link_of cmp links p ≡ Some held) (number : held.number ≡ n) (place : ℕ) (rate : Rate) (rated : rate_at pace (Some place) ≡ Some rate)
     (t : Duration) (after : latest ≤ as_nanos t) where

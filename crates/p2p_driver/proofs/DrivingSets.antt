@@ -24,7 +24,7 @@ use Rattle.p2p_driver.specs.declared.pace.Pace.{Pace}
 use Rattle.p2p_driver.specs.declared.next_dial.NextDial.{NextDial}
 use Rattle.p2p_driver.proofs.Driving.{slotted, unslotted}
 use Rattle.p2p_driver.proofs.Standing
-use Rattle.p2p_driver.proofs.Standing.{IsAtOnce}
+use Rattle.p2p_driver.proofs.Standing.{IsSoon}
 
 module _ {C : Type 0} where
   -- the room for what may have to be said is that of links that were closed
@@ -37,14 +37,14 @@ module _ {C : Type 0} where
   }
 
 module _ {C S : Type 0} (cmp : C → C → Ordering) (wire : Wire C S) (node : NodeView C S) (pace : Pace)
-    (greeting : List ℕ) (cooldown : ℕ) (dial : NextDial) (latest next : ℕ) (arrivals : List (Arrival C)) (answers : AnswersView) (reads : List (ℕ × MetersView))
+    (greeting : List ℕ) (cooldown : ℕ) (dial : NextDial C) (latest next : ℕ) (arrivals : List (Arrival C)) (answers : AnswersView) (reads : List (ℕ × MetersView))
     (links : List (C × Held)) (actions : List (Action C)) where
   abbrev v : DriverView C S
   v = seen node pace greeting cooldown dial latest next arrivals answers reads links actions
 
   -- a set came that was accepted
-  pub tears : (index : ℕ) (primary secondary torn : List C) (t : Duration) (node2 : NodeView C S) (dial2 : NextDial)
-      (links2 : List (C × Held)) (actions2 : List (Action C)) → IsAtOnce dial dial2 → latest ≤ as_nanos t →
+  pub tears : (index : ℕ) (primary secondary torn : List C) (t : Duration) (node2 : NodeView C S) (dial2 : NextDial C)
+      (links2 : List (C × Held)) (actions2 : List (Action C)) → IsSoon dial dial2 → latest ≤ as_nanos t →
       length primary ≤ node.limits.max_bit_vec → Makes cmp (Track index primary secondary ∷ []) node node2 →
       TearsDown cmp index primary secondary (Some torn) node →
       ((q : C) → link_of cmp links2 q ≡ (if has_key cmp torn q then option_map closed (link_of cmp links q) else link_of cmp links q)) →
@@ -64,7 +64,7 @@ module _ {C S : Type 0} (cmp : C → C → Ordering) (wire : Wire C S) (node : N
   }
 
   -- a set came that wasn't
-  pub stales : (index : ℕ) (primary secondary : List C) (node2 : NodeView C S) (dial2 : NextDial) → IsAtOnce dial dial2 →
+  pub stales : (index : ℕ) (primary secondary : List C) (node2 : NodeView C S) (dial2 : NextDial C) → IsSoon dial dial2 →
       length primary ≤ node.limits.max_bit_vec → Makes cmp (Track index primary secondary ∷ []) node node2 →
       TearsDown cmp index primary secondary None node →
       Does cmp wire (Happening.StaleSetCame index primary secondary) v

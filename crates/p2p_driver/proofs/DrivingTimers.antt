@@ -30,12 +30,12 @@ use Rattle.p2p_driver.specs.Links.{link_of, count_of, needs, need_of, need_at, i
 use Rattle.p2p_driver.specs.Meters.{MetersView}
 use Rattle.p2p_driver.specs.Questions.{owed_with, asked_after, IsQuestion, IsNextQuestion}
 use Rattle.p2p_driver.specs.Steps.{Makes}
-use Rattle.p2p_driver.specs.Timers.{ClosesOne, ClosesLate, AsksOne, AsksAll, was_asked, TimesOut, DialsOne, DialsAll, is_dial, was_dialed}
-use Rattle.p2p_driver.specs.Timers.{NoneLate, NoneToAsk, NoneToDial, dial_at}
-use Rattle.p2p_driver.specs.Steps.{is_before}
+use Rattle.p2p_driver.specs.Timers.{ClosesOne, ClosesLate, AsksOne, AsksAll, was_asked, TimesOut, DialsOne, DialsAll, FreesSome, is_dial, was_dialed}
+use Rattle.p2p_driver.specs.Timers.{NoneLate, NoneToAsk, NoneCooled, NoneToDial, dial_at}
+use Rattle.p2p_driver.specs.Steps.{is_before, is_outbound_free}
 use Rattle.p2p_driver.specs.declared.driver.dialing.Dialed.{Dialed}
 use Rattle.p2p_driver.specs.declared.driver.dialing.Dialed.TheVariants as dialed
-use Rattle.p2p_driver.specs.declared.links.Direction.TheVariants.{Dialing, Outbound}
+use Rattle.p2p_driver.specs.declared.links.Direction.TheVariants.{Dialing}
 use Rattle.std.specs.Prelude.{slice_get, nat_lt}
 use Rattle.std.proofs.Common.{inl, inr, ◌⊎◌}
 use Rattle.p2p_driver.specs.declared.actions.Action.{Action}
@@ -150,7 +150,7 @@ late_needs pace t held late = go held.phase (nat_le (due pace held) t) late
     go phase.Closing b late = absurd cc
 
 module _ {C S : Type 0} (cmp : C → C → Ordering) (wire : Wire C S) (node : NodeView C S) (pace : Pace)
-    (greeting : List ℕ) (cooldown : ℕ) (dial : NextDial) (latest next : ℕ) (arrivals : List (Arrival C)) (answers : AnswersView) (reads : List (ℕ × MetersView))
+    (greeting : List ℕ) (cooldown : ℕ) (dial : NextDial C) (latest next : ℕ) (arrivals : List (Arrival C)) (answers : AnswersView) (reads : List (ℕ × MetersView))
     (links : List (C × Held)) (actions : List (Action C)) where
   abbrev v : DriverView C S
   v = seen node pace greeting cooldown dial latest next arrivals answers reads links actions
@@ -187,7 +187,7 @@ module _ {C S : Type 0} (cmp : C → C → Ordering) (wire : Wire C S) (node : N
           actions = actions ++ closing n why.Slow;
         }) node pace greeting cooldown dial latest next arrivals2 answers2 reads links actions2 refl refl refl refl refl (sym now) refl (sym gone) (sym same) refl refl (sym said))
         (Standing.goes b h v at n t e (closing n why.Slow) (roomless answers) refl (λ j. refl) (λ j. refl) (λ j. refl) refl refl
-        (λ p. refl) (λ p. refl) (λ p. refl) (λ way. refl) refl refl refl refl refl refl refl (λ j. refl) (λ j. refl) (λ j place. refl)
+        (λ p. refl) (λ p. refl) (λ p. refl) (λ way. refl) refl refl refl refl (λ q. refl) (λ q. refl) refl refl refl refl (λ j. refl) (λ j. refl) (λ j place. refl)
         (right b h at) (let is = now in grind (arith))
         (subst (λ k. AreKept b.pace k (answered_in h) (roomless answers)) (sym at.latest ∙ now) at.answers));
   }
@@ -468,6 +468,11 @@ module _ {C S : Type 0} (cmp : C → C → Ordering) (wire : Wire C S) (t : Dura
   dials_asked word dialed.Memory v v2 one none = subst (NoneToAsk cmp (as_nanos t)) (sym one.2.1) none
   dials_asked word dialed.Nobody v v2 one none = subst (NoneToAsk cmp (as_nanos t)) (sym one.1.1) none
 
+  dials_kept : (word : ℕ) (d : Dialed) (v v2 : DriverView C S) → DialsOne cmp wire t word d v v2 → NoneCooled cmp (as_nanos t) v → NoneCooled cmp (as_nanos t) v2
+  dials_kept word dialed.Begun v v2 one none = one.1.1.kept none
+  dials_kept word dialed.Memory v v2 one none = subst (NoneCooled cmp (as_nanos t)) (sym one.2.1) none
+  dials_kept word dialed.Nobody v v2 one none = subst (NoneCooled cmp (as_nanos t)) (sym one.1.1) none
+
   -- nobody was dialled if nobody was to be
   dials_same : (word : ℕ) (d : Dialed) (v v2 v3 : DriverView C S) → DialsOne cmp wire t word d v2 v3 → (NoneToDial (as_nanos t) v → v2 ≡ v) → NoneToDial (as_nanos t) v → v3 ≡ v
   dials_same word dialed.Begun v v2 v3 one same none = absurd (not_both one.0 (subst (NoneToDial (as_nanos t)) (sym (same none)) none))
@@ -490,6 +495,7 @@ module _ {C S : Type 0} (cmp : C → C → Ordering) (wire : Wire C S) (t : Dura
     pub turn : IsTurn i did.happenings v2
     pub late : NoneLate cmp (as_nanos t) v → NoneLate cmp (as_nanos t) v2
     pub to_ask : NoneToAsk cmp (as_nanos t) v → NoneToAsk cmp (as_nanos t) v2
+    pub kept : NoneCooled cmp (as_nanos t) v → NoneCooled cmp (as_nanos t) v2
     pub same : NoneToDial (as_nanos t) v → v2 ≡ v
     pub many : NoneToDial (as_nanos t) v2 ⊎ (i ≤ count_of Dialing v2.links)
 
@@ -502,6 +508,7 @@ module _ {C S : Type 0} (cmp : C → C → Ordering) (wire : Wire C S) (t : Dura
     turn = inr refl;
     late = λ none. none;
     to_ask = λ none. none;
+    kept = λ none. none;
     same = λ none. refl;
     many = inr (let k = count_of Dialing v.links in grind (arith));
   }
@@ -516,6 +523,7 @@ module _ {C S : Type 0} (cmp : C → C → Ordering) (wire : Wire C S) (t : Dura
     turn = more.1;
     late = λ none. dials_late word d v2 v3 one (so.late none);
     to_ask = λ none. dials_asked word d v2 v3 one (so.to_ask none);
+    kept = λ none. dials_kept word d v2 v3 one (so.kept none);
     same = λ none. dials_same word d v v2 v3 one so.same none;
     many = dials_count word i d v2 v3 one so.many;
   }
@@ -533,7 +541,7 @@ module _ {C S : Type 0} (cmp : C → C → Ordering) (wire : Wire C S) (t : Dura
       go : NoneToDial (as_nanos t) v2 ⊎ (length words ≤ count_of Dialing v2.links) → NoneToDial (as_nanos t) v2
       go (inl none) = none
       go (inr many) = all_placed (not (is_before (as_nanos t) (dial_at v2))) (nat_lt (length v2.links) v2.pace.links)
-          (nat_lt (count_of Dialing v2.links + count_of Outbound v2.links) v2.pace.outbound) full
+          (is_outbound_free v2.pace v2.links) full
         where
           full : nat_lt (count_of Dialing v2.links) v2.pace.dials ≡ false
           full = let fits = enough in let same = ap (λ (p : Pace). p.dials) so.pace in grind (arith, nat_tests)
@@ -544,25 +552,32 @@ module _ {C S : Type 0} (cmp : C → C → Ordering) (wire : Wire C S) (t : Dura
           all_placed true false c is = refl
           all_placed false b c is = refl
 
-  -- time passed, then they were closed, then some were asked, and then some were dialled
-  pub times_out : (now : ℕ) (words : List ℕ) (asked dialed result : Result (Unit {0}) AllocError) (v v2 v3 v4 v5 : DriverView C S) →
+  -- time passed, then they were closed, then some were asked, then some grants were given up, and then some were dialled
+  pub times_out : (now : ℕ) (words : List ℕ) (asked dialed result : Result (Unit {0}) AllocError) (v v2 v3 v4 v5 v6 : DriverView C S) →
       (is_ok asked && is_ok dialed) ≡ is_ok result → as_nanos t ≡ max v.latest now → Does cmp wire (Happening.Passed t) v v2 →
-      ClosesLate cmp wire t v2 v3 → AsksAll cmp wire t asked v3 v4 → DialsAll cmp wire t words dialed v4 v5 → TimesOut cmp wire now words result v v5
-  times_out now words asked dialed result v v2 v3 v4 v5 both is passed closes asks dials = record {
+      ClosesLate cmp wire t v2 v3 → AsksAll cmp wire t asked v3 v4 → FreesSome cmp wire t v4 v5 → DialsAll cmp wire t words dialed v5 v6 →
+      TimesOut cmp wire now words result v v6
+  times_out now words asked dialed result v v2 v3 v4 v5 v6 both is passed closes asks frees dials = record {
     time = t;
     time_is = is;
     late = closes.happenings;
     are_late = closes.are_late;
     asked = asks.happenings;
     are_asked = asks.are_asked;
+    freed = frees.happenings;
+    are_freed = frees.are_freed;
     dialed = dials.happenings;
     are_dialed = dials.are_dialed;
     all = ap (λ b. b && list_all was_dialed dials.happenings) asks.all ∙ ap (λ b. is_ok asked && b) dials.all ∙ both;
-    does = λ given pace h at. subst (λ k. DriverStandsAt (base_of cmp wire given pace) k v5)
-        (ap (λ k. dials.happenings ++ k) (ap (λ k. asks.happenings ++ k) (sym (append_assoc closes.happenings (Happening.Passed t ∷ []) h))
-        ∙ sym (append_assoc asks.happenings (closes.happenings ++ Happening.Passed t ∷ []) h))
-        ∙ sym (append_assoc dials.happenings (asks.happenings ++ (closes.happenings ++ Happening.Passed t ∷ [])) h))
-        (dials.does given pace (asks.happenings ++ (closes.happenings ++ Happening.Passed t ∷ h))
+    does = λ given pace h at. let late : List (Happening C S) = closes.happenings ++ Happening.Passed t ∷ [] in
+        subst (λ k. DriverStandsAt (base_of cmp wire given pace) k v6)
+        (ap (λ k. dials.happenings ++ k) (ap (λ k. frees.happenings ++ k) (ap (λ k. asks.happenings ++ k)
+        (sym (append_assoc closes.happenings (Happening.Passed t ∷ []) h))
+        ∙ sym (append_assoc asks.happenings late h))
+        ∙ sym (append_assoc frees.happenings (asks.happenings ++ late) h))
+        ∙ sym (append_assoc dials.happenings (frees.happenings ++ (asks.happenings ++ late)) h))
+        (dials.does given pace (frees.happenings ++ (asks.happenings ++ (closes.happenings ++ Happening.Passed t ∷ h)))
+        (frees.does given pace (asks.happenings ++ (closes.happenings ++ Happening.Passed t ∷ h))
         (asks.does given pace (closes.happenings ++ Happening.Passed t ∷ h)
-        (closes.does given pace (Happening.Passed t ∷ h) (passed.goes given pace h at))));
+        (closes.does given pace (Happening.Passed t ∷ h) (passed.goes given pace h at)))));
   }

@@ -23,9 +23,10 @@ use Rattle.p2p_driver.specs.Answers.{AnswersView}
 use Rattle.p2p_driver.specs.Drivers.{DriverView, DriverStands, Does, seen, base_of}
 use Rattle.p2p_driver.specs.Frames.{Outcome, Spells, IsWaiting, refusal_of, is_early, owed_after, IsAsDialer}
 use Rattle.p2p_driver.specs.Frames.Cause.{OfVerdicts}
-use Rattle.p2p_driver.specs.Happenings.{Happening, calls_of, said_as, said_with, calls_for}
+use Rattle.p2p_driver.specs.Happenings.{Happening, calls_of, said_as, said_with}
 use Rattle.p2p_driver.specs.Hearing.{Follows, IsJudged}
 use Rattle.p2p_driver.specs.Links.{link_of, count_of, hearing, has_room, has_room_at, is_dialer}
+use Rattle.p2p_driver.specs.Grants.{grant_of}
 use Rattle.p2p_driver.specs.Meters.{MetersView}
 use Rattle.p2p_driver.specs.Reading.{read_by}
 use Rattle.p2p_driver.specs.Steps.{Makes, MakesFor, MayConnect, IsDone, IsBlocked}
@@ -43,7 +44,7 @@ use Rattle.p2p_driver.specs.declared.next_dial.NextDial.{NextDial}
 use Rattle.p2p_driver.specs.Questions.{IsNextQuestion}
 use Rattle.p2p_driver.specs.declared.questions.Question.{Question}
 use Rattle.p2p_driver.proofs.Driving.{slotted}
-use Rattle.p2p_driver.proofs.Standing.{IsAtOnce, IsSought}
+use Rattle.p2p_driver.proofs.Standing.{IsAtOnce, IsSoon, IsSoughtFor}
 use Rattle.p2p_driver.proofs.DrivingFrames.{hears, room_on, judged_outs, blocked_done, said_none, unchanged, blocks_from, makes_from}
 use Rattle.p2p_driver.proofs.Reserved.{reserved_anywhere}
 use Rattle.p2p_driver.proofs.Status.{connects_by}
@@ -127,22 +128,22 @@ module _ {C S : Type 0} (cmp : C → C → Ordering) (wire : Wire C S) (exact : 
 
 -- WHAT A DRIVER DOES OF VERDICTS
 module _ {C S : Type 0} (cmp : C → C → Ordering) (wire : Wire C S) (node : NodeView C S) (pace : Pace)
-    (greeting : List ℕ) (cooldown : ℕ) (dial : NextDial) (latest next : ℕ) (arrivals : List (Arrival C)) (answers : AnswersView) (reads : List (ℕ × MetersView))
+    (greeting : List ℕ) (cooldown : ℕ) (dial : NextDial C) (latest next : ℕ) (arrivals : List (Arrival C)) (answers : AnswersView) (reads : List (ℕ × MetersView))
     (links : List (C × Held)) (actions : List (Action C)) (n : ℕ) (p : C) (held : Held) (w : Waiting) (verdicts : List Bool) (t : Duration)
     (after : latest ≤ as_nanos t) (linked : link_of cmp links p ≡ Some held) (number : held.number ≡ n) (waits : held.waiting ≡ Some w)
     (may : IsWaiting cmp wire node.limits (judge_of cmp wire.verifies node.verifier) held.phase p w) (counted : length verdicts ≡ w.count) where
   abbrev stood : DriverView C S
   stood = seen node pace greeting cooldown dial latest next arrivals answers reads links actions
 
-  abbrev left : NodeView C S → NextDial → List (C × Held) → List (Action C) → DriverView C S
+  abbrev left : NodeView C S → NextDial C → List (C × Held) → List (Action C) → DriverView C S
   left node2 dial2 links2 actions2 = seen node2 pace greeting cooldown dial2 (as_nanos t) next arrivals answers reads links2 actions2
 
   abbrev judge : Judge C S
   judge = judge_of cmp wire.verifies node.verifier
 
   -- such an outcome comes of it
-  does : (owed : ℕ) (outcome : Outcome C S) (node2 : NodeView C S) (dial2 : NextDial) (links2 : List (C × Held)) (actions2 : List (Action C)) →
-      IsAsDialer (is_dialer held) outcome → IsSought (calls_for p t outcome) dial dial2 → IsJudged cmp wire w verdicts outcome node → owed ≡ owed_after held.phase outcome pace.owed held.owed →
+  does : (owed : ℕ) (outcome : Outcome C S) (node2 : NodeView C S) (dial2 : NextDial C) (links2 : List (C × Held)) (actions2 : List (Action C)) →
+      IsAsDialer (is_dialer held) outcome → IsSoughtFor cmp p t outcome dial dial2 → IsJudged cmp wire w verdicts outcome node → owed ≡ owed_after held.phase outcome pace.owed held.owed →
       AtEach cmp node (λ m calls. IsDone wire m pace.refresh held.asked calls p t outcome) → MakesFor cmp p t outcome node node2 →
       ((j : ℕ) (place : Option ℕ) → read_by j place (Happening.Heard n p t owed (OfVerdicts verdicts) outcome) ≡ []) →
       Follows cmp n p t owed outcome links links2 actions actions2 → IfSome (said_as t outcome) (λ at. has_room pace.queue held ≡ true) →
@@ -154,16 +155,16 @@ module _ {C S : Type 0} (cmp : C → C → Ordering) (wire : Wire C S) (node : N
       (λ given pace2 h at. tt) owes done made unread follows room
 
   -- the peer has greeted
-  pub greets_by : (dialer : Bool) (info : Info C S) (question : Option Question) (node1 node2 : NodeView C S) (dial2 : NextDial) (links2 : List (C × Held)) (actions2 : List (Action C)) →
-      IsAtOnce dial dial2 → dialer ≡ is_dialer held →
+  pub greets_by : (dialer : Bool) (info : Info C S) (question : Option Question) (node1 node2 : NodeView C S) (dial2 : NextDial C) (links2 : List (C × Held)) (actions2 : List (Action C)) →
+      IsAtOnce dial dial2 → ((q : C) → grant_of cmp dial2.grants q ≡ (if is_at (cmp p) q then None else grant_of cmp dial.grants q)) → dialer ≡ is_dialer held →
       IsJudged cmp wire w verdicts (Outcome.Greets dialer info question) node → Makes cmp (Update (info ∷ []) ∷ []) node node1 →
       Makes cmp (Connect p dialer ∷ []) node1 node2 → IfSome question (λ question. IsNextQuestion cmp wire pace.refresh held.asked question node2) →
       IfSome question (λ question. has_room_at pace.queue (link_of cmp links p) ≡ true) →
       Follows cmp n p t (owed_after phase.Greeting (Outcome.Greets dialer info question) pace.owed held.owed) (Outcome.Greets dialer info question) links links2 actions actions2 →
       Does cmp wire (Happening.Heard n p t (owed_after phase.Greeting (Outcome.Greets dialer info question) pace.owed held.owed) (OfVerdicts verdicts)
       (Outcome.Greets dialer info question)) stood (left node2 dial2 links2 actions2)
-  greets_by dialer info question node1 node2 dial2 links2 actions2 once dials comes updated connected asked room follows =
-      does (owed_after phase.Greeting (Outcome.Greets dialer info question) pace.owed held.owed) (Outcome.Greets dialer info question) node2 dial2 links2 actions2 dials (inr once) comes
+  greets_by dialer info question node1 node2 dial2 links2 actions2 once spent dials comes updated connected asked room follows =
+      does (owed_after phase.Greeting (Outcome.Greets dialer info question) pace.owed held.owed) (Outcome.Greets dialer info question) node2 dial2 links2 actions2 dials (inr once, spent) comes
       (ap (λ ph. owed_after ph (Outcome.Greets dialer info question) pace.owed held.owed)
       (sym (greeting_phase cmp wire node.limits judge held.phase p w info may comes.0)))
       (asks question asked) made (λ j place. refl) follows (said_if question (room_on cmp pace.queue p links held linked question room))
@@ -182,13 +183,13 @@ module _ {C S : Type 0} (cmp : C → C → Ordering) (wire : Wire C S) (node : N
           (connected given (Update (info ∷ []) ∷ calls) (updated given calls at))
 
   -- infos are applied
-  pub takes_by : (infos : List (Info C S)) (node2 : NodeView C S) (dial2 : NextDial) (links2 : List (C × Held)) (actions2 : List (Action C)) →
-      IsAtOnce dial dial2 →
+  pub takes_by : (infos : List (Info C S)) (node2 : NodeView C S) (dial2 : NextDial C) (links2 : List (C × Held)) (actions2 : List (Action C)) →
+      IsSoon dial dial2 →
       IsJudged cmp wire w verdicts (Outcome.Takes infos) node → Makes cmp (Update infos ∷ []) node node2 →
       ((q : C) → link_of cmp links2 q ≡ (if is_at (cmp p) q then option_map (hearing t held.owed None) (link_of cmp links q) else link_of cmp links q)) →
       ((way : Direction) → count_of way links2 ≡ count_of way links) → actions2 ≡ actions →
       Does cmp wire (Happening.Heard n p t held.owed (OfVerdicts verdicts) (Outcome.Takes infos)) stood (left node2 dial2 links2 actions2)
-  takes_by infos node2 dial2 links2 actions2 once comes updated kept count same = does held.owed (Outcome.Takes infos) node2 dial2 links2 actions2 tt (inr once) comes refl
+  takes_by infos node2 dial2 links2 actions2 once comes updated kept count same = does held.owed (Outcome.Takes infos) node2 dial2 links2 actions2 tt (inr once.0, λ q. ap (λ gs. grant_of cmp gs q) once.1) comes refl
       (λ given calls at. tt) updated (λ j place. refl) (record { links_are = kept; counts = count; said = said_none actions actions2 same }) tt
 
   -- what a refusal says of what waits
@@ -200,15 +201,15 @@ module _ {C S : Type 0} (cmp : C → C → Ordering) (wire : Wire C S) (node : N
   pub early_by : (e : Error) (node2 : NodeView C S) (links2 : List (C × Held)) (actions2 : List (Action C)) → IsRefusedFor e → is_early e ≡ true → node2 ≡ node →
       Follows {S = S} cmp n p t held.owed Outcome.IsEarly links links2 actions actions2 →
       Does cmp wire (Happening.Heard n p t held.owed (OfVerdicts verdicts) Outcome.IsEarly) stood (left node2 dial links2 actions2)
-  early_by e node2 links2 actions2 refused early same follows = does held.owed Outcome.IsEarly node2 dial links2 actions2 tt (inl (refl, refl))
+  early_by e node2 links2 actions2 refused early same follows = does held.owed Outcome.IsEarly node2 dial links2 actions2 tt (inl (refl, refl, refl), λ q. refl)
       (refused.0, refused.1, early_is e _ refused.2 early) refl (λ given calls at. tt) (unchanged cmp node node2 same) (λ j place. refl) follows tt
 
   -- another one is refused
-  pub refuses_by : (e : Error) (blocked : Option Bool) (node1 node2 : NodeView C S) (dial2 : NextDial) (links2 : List (C × Held)) (actions2 : List (Action C)) → IsAtOnce dial dial2 → IsRefusedFor e → is_early e ≡ false →
+  pub refuses_by : (e : Error) (blocked : Option Bool) (node1 node2 : NodeView C S) (dial2 : NextDial C) (links2 : List (C × Held)) (actions2 : List (Action C)) → IsSoon dial dial2 → IsRefusedFor e → is_early e ≡ false →
       node1 ≡ node → MakesFor {S = S} cmp p t (Outcome.Breaks (breach.Invalid e) blocked) node1 node2 → IsBlocked cmp p (as_nanos t) blocked node1 →
       Follows {S = S} cmp n p t held.owed (Outcome.Breaks (breach.Invalid e) blocked) links links2 actions actions2 →
       Does cmp wire (Happening.Heard n p t held.owed (OfVerdicts verdicts) (Outcome.Breaks (breach.Invalid e) blocked)) stood (left node2 dial2 links2 actions2)
   refuses_by e blocked node1 node2 dial2 links2 actions2 once refused early same made blocks follows =
-      does held.owed (Outcome.Breaks (breach.Invalid e) blocked) node2 dial2 links2 actions2 tt (inr once) (refused.0, refused.1, (refused.2, early)) refl
+      does held.owed (Outcome.Breaks (breach.Invalid e) blocked) node2 dial2 links2 actions2 tt (inr once.0, λ q. ap (λ gs. grant_of cmp gs q) once.1) (refused.0, refused.1, (refused.2, early)) refl
       (blocked_done cmp wire node p t (breach.Invalid e) blocked (blocks_from cmp node1 node p (as_nanos t) blocked same blocks))
       (makes_from cmp node1 node node2 p t (Outcome.Breaks (breach.Invalid e) blocked) same made) (λ j place. refl) follows tt

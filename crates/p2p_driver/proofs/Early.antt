@@ -3,6 +3,7 @@ use Rattle.std.proofs.Common.{◌≡◌, ◌<◌, ◌≤◌, ℕ, Bool, true, fa
 use Rattle.std.specs.Prelude.{if◌then◌else◌, ◌&&◌, not, IfSome, min, nat_le, nat_lt, option_map}
 use Rattle.std.proofs.Math.Bool.{and-false}
 use Rattle.std.specs.Duration.{as_nanos}
+use Rattle.std.specs.declared.time.Duration.{Duration}
 use Rattle.std.specs.declared.cmp.Ordering.{Ordering}
 use Rattle.std.proofs.lemmas.Bool.Decides.{nat_tests}
 use Rattle.p2p_tracker.specs.Calls.{Settings, Call, Cooldown}
@@ -19,13 +20,14 @@ use Rattle.p2p_driver.specs.Arrivals.{has_number, deadline_of, IsLeastDeadline}
 use Rattle.p2p_driver.specs.Drivers.{DriverView}
 use Rattle.p2p_driver.specs.Links.{link_of, is_timed, is_open, is_late, is_to_ask, ask_at, due, next_of, IsLeastDue}
 use Rattle.p2p_driver.specs.Steps.{dials_by, is_before}
-use Rattle.p2p_driver.specs.Timers.{NoneLate, NoneToAsk, NoneToDial, earlier, held_moment, dial_at, dial_due, IsNextTimeout}
+use Rattle.p2p_driver.specs.Grants.{kept_grant, is_cooled, cooled_at, IsLeastCooled}
+use Rattle.p2p_driver.specs.Timers.{NoneLate, NoneToAsk, NoneCooled, NoneToDial, earlier, held_moment, dial_at, dial_due, IsNextTimeout}
 use Rattle.p2p_driver.specs.declared.arrivals.Arrival.{Arrival}
 use Rattle.p2p_driver.specs.declared.links.Held.{Held}
 use Rattle.p2p_driver.specs.declared.pace.Pace.{Pace}
 use Rattle.p2p_driver.specs.declared.links.Phase.{Phase}
 use Rattle.p2p_driver.specs.declared.links.Phase.TheVariants as phase
-use Rattle.p2p_driver.proofs.Due.{found_at}
+use Rattle.p2p_driver.proofs.Entries.{found_at}
 
 some_is : {A : Type 0} {x y : A} → Some x ≡ Some y → x ≡ y
 some_is e = cc
@@ -92,9 +94,13 @@ module _ (pace : Pace) (t : ℕ) (held : Held) where
 
 module _ {C S : Type 0} (cmp : C → C → Ordering) (t : ℕ) (v : DriverView C S) (next : Option ℕ) (is : IsNextTimeout cmp v next) (later : IsLater t next) where
   -- what is due of each kind is later
-  all : IsLater t (held_moment (dial_due v)) × IsLater t (earlier (earlier (held_moment is.stream) (held_moment is.link)) (earlier is.block is.cooldown))
-  all = both t (held_moment (dial_due v)) (earlier (earlier (held_moment is.stream) (held_moment is.link)) (earlier is.block is.cooldown))
-      (subst (IsLater t) is.next_is later)
+  all : IsLater t (earlier (held_moment (dial_due v)) (held_moment is.kept))
+      × IsLater t (earlier (earlier (held_moment is.stream) (held_moment is.link)) (earlier is.block is.cooldown))
+  all = both t (earlier (held_moment (dial_due v)) (held_moment is.kept))
+      (earlier (earlier (held_moment is.stream) (held_moment is.link)) (earlier is.block is.cooldown)) (subst (IsLater t) is.next_is later)
+
+  dials : IsLater t (held_moment (dial_due v)) × IsLater t (held_moment is.kept)
+  dials = both t (held_moment (dial_due v)) (held_moment is.kept) all.0
 
   parts : IsLater t (earlier (earlier (held_moment is.stream) (held_moment is.link)) (earlier is.block is.cooldown))
   parts = all.1
@@ -128,9 +134,25 @@ module _ {C S : Type 0} (cmp : C → C → Ordering) (t : ℕ) (v : DriverView C
   pub none_to_ask : NoneToAsk cmp t v
   none_to_ask = λ p held linked. (of_link p held linked).1
 
+  -- no kept grant's cooldown is over
+  pub none_cooled : NoneCooled cmp t v
+  none_cooled p = go (kept_grant cmp v.links v.next_dial.grants p) refl
+    where
+      low : (least : Option ℕ) → IsLeastCooled cmp v.cooldown v.links v.next_dial.grants least → IsLater t least → (granted : Duration) →
+          kept_grant cmp v.links v.next_dial.grants p ≡ Some granted → t < cooled_at v.cooldown granted
+      low None none later granted has = absurd (no_grant granted (sym (none p) ∙ has))
+        where
+          no_grant : (granted : Duration) → ¬ (None ≡ Some granted)
+          no_grant granted is = cc
+      low (Some least) lower later granted has = let less = lower.0 p granted has in omega (arith, later, less)
+
+      go : (o : Option Duration) → kept_grant cmp v.links v.next_dial.grants p ≡ o → is_cooled v.cooldown t o ≡ false
+      go None has = refl
+      go (Some granted) has = not_yet (cooled_at v.cooldown granted) t (low is.kept is.grants (not_held t is.kept dials.1) granted has)
+
   -- nobody is to be dialled
   pub none_to_dial : NoneToDial t v
-  none_to_dial = go (dials_by v.pace v.links) refl (dial_at v) (not_held t (dial_due v) all.0)
+  none_to_dial = go (dials_by v.pace v.links) refl (dial_at v) (not_held t (dial_due v) dials.0)
     where
       go : (b : Bool) → dials_by v.pace v.links ≡ b → (at : Option ℕ) → IsLater t (if dials_by v.pace v.links then at else None) →
           (not (is_before t at) && dials_by v.pace v.links) ≡ false

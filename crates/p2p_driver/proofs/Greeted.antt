@@ -15,6 +15,7 @@ use Rattle.p2p_discovery.specs.declared.discovery.Payload.{Payload}
 use Rattle.p2p_discovery.specs.declared.discovery.Payload.TheVariants as payload
 use Rattle.p2p_tracker.specs.Calls.{Settings, Call}
 use Rattle.p2p_tracker.specs.History.{same, last_with, found_with}
+use Rattle.p2p_driver.specs.declared.links.Direction.{Direction}
 use Rattle.p2p_driver.specs.declared.links.Held.{Held}
 use Rattle.p2p_driver.specs.declared.links.Phase.{Phase}
 use Rattle.p2p_driver.specs.declared.links.Phase.TheVariants as phase
@@ -182,31 +183,9 @@ module _ {C S : Type 0} (b : Base C S) where
 
     greets_own : (e : Happening C S) (h : List (Happening C S)) → IsRight b h e → AreRight b h → (p : C) →
         greets_by d p e ≡ true → IsGreetingOf d p e
-    greets_own (Happening.Arrived n origin t space) h is right p greets = absurd cc
-    greets_own (Happening.Claimed n q origin t) h is right p greets = absurd cc
-    greets_own (Happening.Refused n q t why) h is right p greets = absurd cc
-    greets_own (Happening.Proved n q t draw) h is right p greets = absurd cc
-    greets_own (Happening.Unproved n q t why) h is right p greets = absurd cc
-    greets_own (Happening.Left n t) h is right p greets = absurd cc
-    greets_own (Happening.Dialed n q t draw word ingress) h is right p greets = absurd cc
-    greets_own (Happening.Undialed t) h is right p greets = absurd cc
-    greets_own (Happening.Reached n q t) h is right p greets = absurd cc
-    greets_own (Happening.Mistaken n q t) h is right p greets = absurd cc
-    greets_own (Happening.Ended n q t direction) h is right p greets = absurd cc
-    greets_own (Happening.SetCame t index primary secondary torn) h is right p greets = absurd cc
-    greets_own (Happening.StaleSetCame index primary secondary) h is right p greets = absurd cc
-    greets_own (Happening.StreamLate n t) h is right p greets = absurd cc
-    greets_own (Happening.LinkLate n q t) h is right p greets = absurd cc
-    greets_own (Happening.Written n q t) h is right p greets = absurd cc
-    greets_own (Happening.Spoken n q t place) h is right p greets = absurd cc
     greets_own (Happening.Heard n q t owed c outcome) h is right p greets =
         heard_greets h right n q t owed c outcome is p greets
-    greets_own (Happening.Asked n q t owed fits question) h is right p greets = absurd cc
-    greets_own (Happening.Given infos t) h is right p greets = absurd cc
-    greets_own (Happening.Barred q t taken) h is right p greets = absurd cc
-    greets_own (Happening.Parted q t) h is right p greets = absurd cc
-    greets_own (Happening.Passed t) h is right p greets = absurd cc
-    greets_own (Happening.Taken action) h is right p greets = absurd cc
+    greets_own e h is right p greets = absurd cc
 
     -- one of the happenings since the link of p began is its greeting, if one is at all
     abbrev Greeted : C → List (Happening C S) → Type 0
@@ -228,7 +207,7 @@ module _ {C S : Type 0} (b : Base C S) where
     has_greeted (e ∷ h) right p is = go (opened_by d p e) (last_with (opened_by d p) h)
         (λ greets. greets_own e h right.0 right.2 p greets) (has_greeted h right.2 p) is
       where
-        go : (o : Option (ℕ × Bool × Duration)) (found : Option ((ℕ × Bool × Duration) × List (Happening C S))) →
+        go : (o : Option (ℕ × Direction × Duration)) (found : Option ((ℕ × Direction × Duration) × List (Happening C S))) →
             (greets_by d p e ≡ true → IsGreetingOf d p e) →
             (list_any (greets_by d p) (since_of found) ≡ true → Greeted p (since_of found)) →
             list_any (greets_by d p) (since_of (found_with o e found)) ≡ true → Greeted p (since_of (found_with o e found))
@@ -240,14 +219,14 @@ module _ {C S : Type 0} (b : Base C S) where
         held.phase ≡ phase.Open → list_any (greets_by d p) (since_began d p h) ≡ true
     open_has_greeted h p held of_p is = go (last_with (opened_by d p) h) of_p
       where
-        at : (found : (ℕ × Bool × Duration) × List (Happening C S)) (ended : Bool) →
+        at : (found : (ℕ × Direction × Duration) × List (Happening C S)) (ended : Bool) →
             (if ended then None else Some (kept_of d p found.0.0 found.0.1 found.0.2 found.1)) ≡ Some held →
             list_any (greets_by d p) found.1 ≡ true
         at found true of_p = absurd (no_link held of_p)
         at found false of_p = of_open (list_any (closes_by d p) found.1) (list_any (greets_by d p) found.1)
             (ap (λ (x : Held). x.phase) (some_is of_p) ∙ is)
 
-        go : (found : Option ((ℕ × Bool × Duration) × List (Happening C S))) → link_since d p found ≡ Some held →
+        go : (found : Option ((ℕ × Direction × Duration) × List (Happening C S))) → link_since d p found ≡ Some held →
             list_any (greets_by d p) (since_of found) ≡ true
         go None of_p = absurd (no_link held of_p)
         go (Some found) of_p = at found (list_any (ends_by d p) found.1) of_p

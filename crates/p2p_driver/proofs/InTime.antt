@@ -65,6 +65,7 @@ module _ {C S : Type 0} (b : Base C S) where
   in_time (Happening.Refused n q t why ∷ h) right = on h (in_time h right.2) (as_nanos t) right.1
   in_time (Happening.Proved n q t draw ∷ h) right = (at_most (as_nanos t), on h (in_time h right.2) (as_nanos t) right.1)
   in_time (Happening.Unproved n q t why ∷ h) right = on h (in_time h right.2) (as_nanos t) right.1
+  in_time (Happening.Adopted n q t outbound ∷ h) right = on h (in_time h right.2) (as_nanos t) right.1
   in_time (Happening.Left n t ∷ h) right = on h (in_time h right.2) (as_nanos t) right.1
   in_time (Happening.Dialed n q t draw word ingress ∷ h) right =
       (at_most (as_nanos t), on h (in_time h right.2) (as_nanos t) right.1)
@@ -72,6 +73,8 @@ module _ {C S : Type 0} (b : Base C S) where
   in_time (Happening.Reached n q t ∷ h) right = on h (in_time h right.2) (as_nanos t) right.1
   in_time (Happening.Mistaken n q t ∷ h) right = on h (in_time h right.2) (as_nanos t) right.1
   in_time (Happening.Ended n q t direction ∷ h) right = (at_most (as_nanos t), on h (in_time h right.2) (as_nanos t) right.1)
+  in_time (Happening.Failed n q t direction ∷ h) right = on h (in_time h right.2) (as_nanos t) right.1
+  in_time (Happening.Released q t ∷ h) right = (at_most (as_nanos t), on h (in_time h right.2) (as_nanos t) right.1)
   in_time (Happening.SetCame t index primary secondary torn ∷ h) right =
       (at_most (as_nanos t), on h (in_time h right.2) (as_nanos t) right.1)
   in_time (Happening.StaleSetCame index primary secondary ∷ h) right =

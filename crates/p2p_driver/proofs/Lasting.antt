@@ -13,15 +13,14 @@ use Rattle.p2p_driver.specs.declared.arrivals.Arrival.{Arrival}
 use Rattle.p2p_driver.specs.declared.links.Held.{Held}
 use Rattle.p2p_driver.specs.declared.origin.Origin.{Origin}
 use Rattle.p2p_driver.specs.Arrivals.{has_number}
-use Rattle.p2p_driver.specs.Drivers.{DriverView, Base, DriverStandsAt, AreRight, IsLinkOf, link}
-use Rattle.p2p_driver.specs.Happenings.{Happening, latest_at, next_at, stream_at, came_by, opened_by, ends_by}
-use Rattle.p2p_driver.specs.Links.{link_of, link_with, dial_with}
+use Rattle.p2p_driver.specs.Drivers.{DriverView, Base, DriverStandsAt, AreRight, IsLinkOf, link, is_claimed}
+use Rattle.p2p_driver.specs.Happenings.{Happening, latest_at, next_at, stream_at, came_by, leaves_by, claim_by, opened_by, ends_by}
+use Rattle.p2p_driver.specs.Links.{link_of, link_with, link_as, taken_way, dial_with}
 use Rattle.p2p_driver.specs.Reading.{begins_as, ends_as, IsMetered, IsMeteredIf, IsMeteredSince}
 use Rattle.p2p_driver.specs.Reads.{reads_of}
-use Rattle.p2p_discovery.specs.declared.types.ingress.Ingress.{Ingress}
 use Rattle.p2p_driver.specs.declared.links.Direction.{Direction}
-use Rattle.p2p_driver.proofs.LinkHistory.{link_dials, touch_by, link_later, link_opens, ended_link}
-use Rattle.p2p_driver.proofs.Numbers.{before, IsOver, still_over, claimed_is_there, number_below, one_number}
+use Rattle.p2p_driver.proofs.LinkHistory.{link_dials, touch_by, link_later, link_opens, link_adopts, ended_link}
+use Rattle.p2p_driver.proofs.Numbers.{before, number_below, IsOver, still_over, left_by, one_number}
 use Rattle.p2p_driver.proofs.StreamHistory.{stream_after, stream_later, next_rises}
 
 some_is : {A : Type 0} {x y : A} → Some x ≡ Some y → x ≡ y
@@ -71,6 +70,17 @@ module _ {C S : Type 0} (b : Base C S) where
       let was = over (sym (found_as e (last_with (begins_as n) h)) ∙ sym (ap (λ o. is_some (found_with o e (last_with (begins_as n) h))) none) ∙ is) in
       still_over e h n (came was.1) was
 
+  -- a stream that was proved left
+  proved_over : (e : Happening C S) (m : ℕ) (r : C) (t : Duration) (h : List (Happening C S)) → AreRight b h → is_claimed b h m r ≡ true →
+      ((n : ℕ) → came_by n e ≡ None) → claim_by m e ≡ None → leaves_by m e ≡ (m == m) →
+      ((n : ℕ) → begins_as n e ≡ (if m == n then Some t else None)) → (n : ℕ) → (is_some (last_with (begins_as n) h) ≡ true → IsOver h n) →
+      is_some (last_with (begins_as n) (e ∷ h)) ≡ true → IsOver (e ∷ h) n
+  proved_over e m r t h right claimed came claim leaves begins n over is = go (m == n) refl
+    where
+      go : (x : Bool) → (m == n) ≡ x → IsOver (e ∷ h) n
+      go true at = subst (IsOver (e ∷ h)) (equal m n at) (left_by b e m r h right claimed (came m) claim (leaves ∙ itself m))
+      go false at = step e h n (begins n ∙ ap (λ x. if◌then◌else◌ {A = Option Duration} x (Some t) None) at) (λ below. came n) over is
+
   -- a link that began was a stream, which left
   began_over : (h : List (Happening C S)) → AreRight b h → (n : ℕ) → is_some (last_with (begins_as n) h) ≡ true → IsOver h n
   began_over [] right n is = absurd cc
@@ -79,32 +89,10 @@ module _ {C S : Type 0} (b : Base C S) where
     where
       differs : m ≡ next_at h → n < next_at h → (m == n) ≡ false
       differs next below = grind (arith, nat_tests)
-  began_over (Happening.Claimed m r origin t ∷ h) right n is = step (Happening.Claimed m r origin t) h n refl (λ below. refl) (began_over h right.2 n) is
-  began_over (Happening.Refused m r t why ∷ h) right n is = step (Happening.Refused m r t why) h n refl (λ below. refl) (began_over h right.2 n) is
-  began_over (Happening.Proved m r t draw ∷ h) right n is = go (m == n) refl (began_over h right.2 n)
-    where
-      e : Happening C S
-      e = Happening.Proved m r t draw
-
-      gone : (o : Option (Arrival C)) → stream_after true None o ≡ None
-      gone None = refl
-      gone (Some a) = refl
-
-      go : (x : Bool) → (m == n) ≡ x → (is_some (last_with (begins_as n) h) ≡ true → IsOver h n) → IsOver (e ∷ h) n
-      go true at over = subst (IsOver (e ∷ h)) (equal m n at) (
-        stream_later m e h refl ∙ ap (λ x. stream_after x None (stream_at m h)) (itself m) ∙ gone (stream_at m h),
-        number_below b h right.2 m (claimed_is_there b h m r right.0.0),
-      )
-      go false at over = step e h n (ap (λ x. if◌then◌else◌ {A = Option Duration} x (Some t) None) at) (λ below. refl) over is
-  began_over (Happening.Unproved m r t why ∷ h) right n is = step (Happening.Unproved m r t why) h n refl (λ below. refl) (began_over h right.2 n) is
-  began_over (Happening.Left m t ∷ h) right n is = step (Happening.Left m t) h n refl (λ below. refl) (began_over h right.2 n) is
-  began_over (Happening.Ended m r t direction ∷ h) right n is = step (Happening.Ended m r t direction) h n refl (λ below. refl) (began_over h right.2 n) is
-  began_over (Happening.SetCame t index primary secondary torn ∷ h) right n is =
-      step (Happening.SetCame t index primary secondary torn) h n refl (λ below. refl) (began_over h right.2 n) is
-  began_over (Happening.StaleSetCame index primary secondary ∷ h) right n is =
-      step (Happening.StaleSetCame index primary secondary) h n refl (λ below. refl) (began_over h right.2 n) is
-  began_over (Happening.StreamLate m t ∷ h) right n is = step (Happening.StreamLate m t) h n refl (λ below. refl) (began_over h right.2 n) is
-  began_over (Happening.LinkLate m r t ∷ h) right n is = step (Happening.LinkLate m r t) h n refl (λ below. refl) (began_over h right.2 n) is
+  began_over (Happening.Proved m r t draw ∷ h) right n is = proved_over (Happening.Proved m r t draw) m r t h right.2 right.0.0
+      (λ n. refl) refl refl (λ n. refl) n (began_over h right.2 n) is
+  began_over (Happening.Adopted m r t outbound ∷ h) right n is = proved_over (Happening.Adopted m r t outbound) m r t h right.2 right.0.0
+      (λ n. refl) refl refl (λ n. refl) n (began_over h right.2 n) is
   began_over (Happening.Dialed m r t draw word ingress ∷ h) right n is = go (m == n) refl (began_over h right.2 n)
     where
       e : Happening C S
@@ -121,20 +109,7 @@ module _ {C S : Type 0} (b : Base C S) where
         (let more = next_rises e h refl in let next = right.0.number in omega (arith, more, next)),
       )
       go false at over = step e h n (ap (λ x. if◌then◌else◌ {A = Option Duration} x (Some t) None) at) (λ below. refl) over is
-  began_over (Happening.Undialed t ∷ h) right n is = step (Happening.Undialed t) h n refl (λ below. refl) (began_over h right.2 n) is
-  began_over (Happening.Reached m r t ∷ h) right n is = step (Happening.Reached m r t) h n refl (λ below. refl) (began_over h right.2 n) is
-  began_over (Happening.Mistaken m r t ∷ h) right n is = step (Happening.Mistaken m r t) h n refl (λ below. refl) (began_over h right.2 n) is
-  began_over (Happening.Written m r t ∷ h) right n is = step (Happening.Written m r t) h n refl (λ below. refl) (began_over h right.2 n) is
-  began_over (Happening.Spoken m r t place ∷ h) right n is = step (Happening.Spoken m r t place) h n refl (λ below. refl) (began_over h right.2 n) is
-  began_over (Happening.Heard m r t owed cause outcome ∷ h) right n is =
-      step (Happening.Heard m r t owed cause outcome) h n refl (λ below. refl) (began_over h right.2 n) is
-  began_over (Happening.Asked m r t owed fits question ∷ h) right n is =
-      step (Happening.Asked m r t owed fits question) h n refl (λ below. refl) (began_over h right.2 n) is
-  began_over (Happening.Given infos t ∷ h) right n is = step (Happening.Given infos t) h n refl (λ below. refl) (began_over h right.2 n) is
-  began_over (Happening.Barred r t taken ∷ h) right n is = step (Happening.Barred r t taken) h n refl (λ below. refl) (began_over h right.2 n) is
-  began_over (Happening.Parted r t ∷ h) right n is = step (Happening.Parted r t) h n refl (λ below. refl) (began_over h right.2 n) is
-  began_over (Happening.Passed t ∷ h) right n is = step (Happening.Passed t) h n refl (λ below. refl) (began_over h right.2 n) is
-  began_over (Happening.Taken action ∷ h) right n is = step (Happening.Taken action) h n refl (λ below. refl) (began_over h right.2 n) is
+  began_over (e ∷ h) right n is = step e h n refl (λ below. refl) (began_over h right.2 n) is
 
   -- nothing is kept of a link with the next number
   pub unread_next : (h : List (Happening C S)) (v : DriverView C S) → DriverStandsAt b h v → reads_of v.reads v.next ≡ None
@@ -178,67 +153,56 @@ module _ {C S : Type 0} (b : Base C S) where
         subst (λ n. Lasts n (last_with (begins_as n) (e ∷ h))) was.2
         (lasts_on e was.0.number (last_with (begins_as was.0.number) h) (none was.0.number) (ends was.0.number) (last p was.0 was.1))
 
-    opened : (m : ℕ) (r : C) (t draw : Duration) (h : List (Happening C S)) → Last h → Last (Happening.Proved m r t draw ∷ h)
-    opened m r t draw h last p held is = go (same d r p) refl (sym (link_opens d p r m t draw h) ∙ is)
+    -- a link began
+    begun : (e : Happening C S) (m : ℕ) (r : C) (t : Duration) (new : Held) (h : List (Happening C S)) →
+        ((n : ℕ) → begins_as n e ≡ (if m == n then Some t else None)) → ((n : ℕ) → ends_as n e ≡ false) →
+        ((p : C) → link b p (e ∷ h) ≡ (if same d r p then Some new else link b p h)) → new.number ≡ m → Last h → Last (e ∷ h)
+    begun e m r t new h begins ends tied number last p held is = go (same d r p) (sym (tied p) ∙ is)
       where
-        e : Happening C S
-        e = Happening.Proved m r t draw
-
         by : (n : ℕ) (x : Bool) → (m == n) ≡ x → (x ≡ false → Lasts n (last_with (begins_as n) h)) → Lasts n (last_with (begins_as n) (e ∷ h))
-        by n true at rest = subst (λ x. Lasts n (found_with (if x then Some t else None) e (last_with (begins_as n) h))) (sym at) refl
-        by n false at rest = lasts_on e n (last_with (begins_as n) h) (ap (λ x. if◌then◌else◌ {A = Option Duration} x (Some t) None) at) refl (rest refl)
+        by n true at rest = subst (λ o. Lasts n (found_with o e (last_with (begins_as n) h)))
+            (sym (begins n ∙ ap (λ x. if◌then◌else◌ {A = Option Duration} x (Some t) None) at)) refl
+        by n false at rest = lasts_on e n (last_with (begins_as n) h)
+            (begins n ∙ ap (λ x. if◌then◌else◌ {A = Option Duration} x (Some t) None) at) (ends n) (rest refl)
 
-        go : (x : Bool) → same d r p ≡ x → (if x then Some (link_with m t) else link b p h) ≡ Some held → Lasts held.number (last_with (begins_as held.number) (e ∷ h))
-        go true at is = by held.number true (ap (λ k. m == k) (sym (ap (λ (y : Held). y.number) (some_is is))) ∙ itself m) (λ isnt. absurd cc)
-        go false at is = by held.number (m == held.number) refl (λ isnt. last p held is)
+        go : (x : Bool) → (if x then Some new else link b p h) ≡ Some held → Lasts held.number (last_with (begins_as held.number) (e ∷ h))
+        go true is = by held.number true (ap (λ k. m == k) (sym (ap (λ (y : Held). y.number) (some_is is)) ∙ number) ∙ itself m) (λ isnt. absurd cc)
+        go false is = by held.number (m == held.number) refl (λ isnt. last p held is)
 
-    dialed : (m : ℕ) (r : C) (t draw : Duration) (word : ℕ) (ingress : Ingress) (h : List (Happening C S)) → Last h → Last (Happening.Dialed m r t draw word ingress ∷ h)
-    dialed m r t draw word ingress h last p held is = go (same d r p) refl (sym (link_dials d p r m t draw word ingress h) ∙ is)
+    -- .. or ended
+    ended : (e : Happening C S) (m : ℕ) (r : C) (direction : Direction) (h : List (Happening C S)) → AreRight b h → IsLinkOf b h m r direction →
+        ((n : ℕ) → begins_as n e ≡ None) → ((n : ℕ) → ends_as n e ≡ (m == n)) →
+        ((p : C) → link b p (e ∷ h) ≡ (if same d r p then None else link b p h)) → Last h → Last (e ∷ h)
+    ended e m r direction h right of_r begins ends tied last p held is = go (same d r p) refl (sym (tied p) ∙ is)
       where
-        e : Happening C S
-        e = Happening.Dialed m r t draw word ingress
-
-        by : (n : ℕ) (x : Bool) → (m == n) ≡ x → (x ≡ false → Lasts n (last_with (begins_as n) h)) → Lasts n (last_with (begins_as n) (e ∷ h))
-        by n true at rest = subst (λ x. Lasts n (found_with (if x then Some t else None) e (last_with (begins_as n) h))) (sym at) refl
-        by n false at rest = lasts_on e n (last_with (begins_as n) h) (ap (λ x. if◌then◌else◌ {A = Option Duration} x (Some t) None) at) refl (rest refl)
-
-        go : (x : Bool) → same d r p ≡ x → (if x then Some (dial_with m t) else link b p h) ≡ Some held → Lasts held.number (last_with (begins_as held.number) (e ∷ h))
-        go true at is = by held.number true (ap (λ k. m == k) (sym (ap (λ (y : Held). y.number) (some_is is))) ∙ itself m) (λ isnt. absurd cc)
-        go false at is = by held.number (m == held.number) refl (λ isnt. last p held is)
-
-    ended : (m : ℕ) (r : C) (t : Duration) (direction : Direction) (h : List (Happening C S)) → AreRight b h → IsLinkOf b h m r direction → Last h → Last (Happening.Ended m r t direction ∷ h)
-    ended m r t direction h right of_r last p held is = go (same d r p) refl
-        (sym (link_later d p (Happening.Ended m r t direction) h refl ∙ ended_link (same d r p) (link b p h)) ∙ is)
-      where
-        e : Happening C S
-        e = Happening.Ended m r t direction
-
         other : (o : Option Held) → link b r h ≡ o → IsSomeAnd o (λ held. (held.number ≡ m) × (held.direction ≡ direction)) → link b p h ≡ Some held → same d r p ≡ false → ¬ (m ≡ held.number)
         other None at is of_p differ number = is
         other (Some g) at is of_p differ number = let one = one_number b exact h right r p g held at of_p (is.0 ∙ number) in absurd cc
 
         go : (x : Bool) → same d r p ≡ x → (if x then None else link b p h) ≡ Some held → Lasts held.number (last_with (begins_as held.number) (e ∷ h))
         go true at is = absurd (no_link held is)
-        go false at is = lasts_on e held.number (last_with (begins_as held.number) h) refl
-            (apart m held.number (other (link b r h) refl of_r is at)) (last p held is)
+        go false at is = lasts_on e held.number (last_with (begins_as held.number) h) (begins held.number)
+            (ends held.number ∙ apart m held.number (other (link b r h) refl of_r is at)) (last p held is)
 
     lasting : (h : List (Happening C S)) → AreRight b h → Last h
     lasting [] right = λ p held is. absurd (no_link held is)
     lasting (Happening.Arrived n origin t space ∷ h) right = still (Happening.Arrived n origin t space) h (λ p. refl) (λ n. refl) (λ n. refl) (lasting h right.2)
     lasting (Happening.Claimed n r origin t ∷ h) right = still (Happening.Claimed n r origin t) h (λ p. refl) (λ n. refl) (λ n. refl) (lasting h right.2)
     lasting (Happening.Refused n r t why ∷ h) right = still (Happening.Refused n r t why) h (λ p. refl) (λ n. refl) (λ n. refl) (lasting h right.2)
-    lasting (Happening.Proved n r t draw ∷ h) right = opened n r t draw h (lasting h right.2)
+    lasting (Happening.Proved n r t draw ∷ h) right =
+        begun (Happening.Proved n r t draw) n r t (link_with n t) h (λ n. refl) (λ n. refl) (λ p. link_opens d p r n t draw h) refl (lasting h right.2)
+    lasting (Happening.Adopted n r t outbound ∷ h) right = begun (Happening.Adopted n r t outbound) n r t (link_as (taken_way outbound) n t) h
+        (λ n. refl) (λ n. refl) (λ p. link_adopts d p r n t outbound h) refl (lasting h right.2)
     lasting (Happening.Unproved n r t why ∷ h) right = still (Happening.Unproved n r t why) h (λ p. refl) (λ n. refl) (λ n. refl) (lasting h right.2)
     lasting (Happening.Left n t ∷ h) right = still (Happening.Left n t) h (λ p. refl) (λ n. refl) (λ n. refl) (lasting h right.2)
-    lasting (Happening.Ended n r t direction ∷ h) right = ended n r t direction h right.2 right.0 (lasting h right.2)
-    lasting (Happening.SetCame t index primary secondary torn ∷ h) right =
-        still (Happening.SetCame t index primary secondary torn) h (λ p. refl) (λ n. refl) (λ n. refl) (lasting h right.2)
-    lasting (Happening.StaleSetCame index primary secondary ∷ h) right =
-        still (Happening.StaleSetCame index primary secondary) h (λ p. refl) (λ n. refl) (λ n. refl) (lasting h right.2)
+    lasting (Happening.Ended n r t direction ∷ h) right = ended (Happening.Ended n r t direction) n r direction h right.2 right.0.0 (λ n. refl) (λ n. refl)
+        (λ p. link_later d p (Happening.Ended n r t direction) h refl ∙ ended_link (same d r p) (link b p h)) (lasting h right.2)
+    lasting (Happening.Failed n r t direction ∷ h) right = ended (Happening.Failed n r t direction) n r direction h right.2 right.0.0 (λ n. refl) (λ n. refl)
+        (λ p. link_later d p (Happening.Failed n r t direction) h refl ∙ ended_link (same d r p) (link b p h)) (lasting h right.2)
     lasting (Happening.StreamLate n t ∷ h) right = still (Happening.StreamLate n t) h (λ p. refl) (λ n. refl) (λ n. refl) (lasting h right.2)
     lasting (Happening.LinkLate n r t ∷ h) right = still (Happening.LinkLate n r t) h (λ p. refl) (λ n. refl) (λ n. refl) (lasting h right.2)
-    lasting (Happening.Dialed n r t draw word ingress ∷ h) right = dialed n r t draw word ingress h (lasting h right.2)
-    lasting (Happening.Undialed t ∷ h) right = still (Happening.Undialed t) h (λ p. refl) (λ n. refl) (λ n. refl) (lasting h right.2)
+    lasting (Happening.Dialed n r t draw word ingress ∷ h) right = begun (Happening.Dialed n r t draw word ingress) n r t (dial_with n t) h
+        (λ n. refl) (λ n. refl) (λ p. link_dials d p r n t draw word ingress h) refl (lasting h right.2)
     lasting (Happening.Reached n r t ∷ h) right = still (Happening.Reached n r t) h (λ p. refl) (λ n. refl) (λ n. refl) (lasting h right.2)
     lasting (Happening.Mistaken n r t ∷ h) right = still (Happening.Mistaken n r t) h (λ p. refl) (λ n. refl) (λ n. refl) (lasting h right.2)
     lasting (Happening.Written n r t ∷ h) right = still (Happening.Written n r t) h (λ p. refl) (λ n. refl) (λ n. refl) (lasting h right.2)
@@ -247,11 +211,7 @@ module _ {C S : Type 0} (b : Base C S) where
         still (Happening.Heard n r t owed cause outcome) h (λ p. refl) (λ n. refl) (λ n. refl) (lasting h right.2)
     lasting (Happening.Asked n r t owed fits question ∷ h) right =
         still (Happening.Asked n r t owed fits question) h (λ p. refl) (λ n. refl) (λ n. refl) (lasting h right.2)
-    lasting (Happening.Given infos t ∷ h) right = still (Happening.Given infos t) h (λ p. refl) (λ n. refl) (λ n. refl) (lasting h right.2)
-    lasting (Happening.Barred r t taken ∷ h) right = still (Happening.Barred r t taken) h (λ p. refl) (λ n. refl) (λ n. refl) (lasting h right.2)
-    lasting (Happening.Parted r t ∷ h) right = still (Happening.Parted r t) h (λ p. refl) (λ n. refl) (λ n. refl) (lasting h right.2)
-    lasting (Happening.Passed t ∷ h) right = still (Happening.Passed t) h (λ p. refl) (λ n. refl) (λ n. refl) (lasting h right.2)
-    lasting (Happening.Taken action ∷ h) right = still (Happening.Taken action) h (λ p. refl) (λ n. refl) (λ n. refl) (lasting h right.2)
+    lasting (e ∷ h) right = still e h (λ p. refl) (λ n. refl) (λ n. refl) (lasting h right.2)
 
     -- what is kept of a link that there is, and of what was done since it began
     pub metered_by : (h : List (Happening C S)) (v : DriverView C S) → DriverStandsAt b h v → (p : C) (held : Held) (n : ℕ) →

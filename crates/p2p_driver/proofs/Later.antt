@@ -8,22 +8,23 @@ use Rattle.std.specs.declared.time.Duration.{Duration}
 use Rattle.std.proofs.lemmas.Bool.Decides.{nat_tests}
 use Rattle.p2p_tracker.specs.Calls.{Settings, Call}
 use Rattle.p2p_discovery.specs.declared.types.ingress.Ingress.{Ingress}
-use Rattle.p2p_tracker.specs.Calls.Call.{Dial, UnblockExpired, ForgetCooled}
+use Rattle.p2p_tracker.specs.Calls.Call.{Dial, Release, UnblockExpired, ForgetCooled}
 use Rattle.p2p_tracker.specs.History.{same}
 use Rattle.p2p_tracker.specs.Moments.{moments_after}
 use Rattle.p2p_tracker.specs.Calls.Event.{Expired, Forgot}
-use Rattle.p2p_tracker.specs.Calls.{Cooldown}
+use Rattle.p2p_tracker.specs.Calls.{Cooldown, Grant}
 use Rattle.p2p_tracker.specs.Directory.{dial_moment_in}
 use Rattle.p2p_tracker.specs.Lists.{IsLeastOf}
 use Rattle.p2p_tracker.specs.Seen.{unblock_of, cooldown_of}
-use Rattle.p2p_tracker.specs.World.{World, dial_event, step, unblock_after, cooldown_after}
+use Rattle.p2p_tracker.specs.World.{World, dial_event, release_event, step, unblock_after, cooldown_after}
 use Rattle.std.proofs.lemmas.List.{append_assoc}
 use Rattle.p2p_directory.specs.Nodes.{NodeStandsAt}
 use Rattle.p2p_directory.specs.Received.{Wire}
 use Rattle.p2p_directory.specs.Run.{world_after}
 use Rattle.p2p_directory.proofs.Definitions.Law
 use Rattle.p2p_driver.specs.Arrivals.{has_number, deadline_of, IsLeastDeadline}
-use Rattle.p2p_driver.specs.Drivers.{Base, DriverView, DriverStandsAt, DriverStands, Rise, base_of}
+use Rattle.p2p_driver.specs.Drivers.{Base, DriverView, DriverStandsAt, DriverStands, AreFreedAt, Rise, base_of}
+use Rattle.p2p_driver.specs.Grants.{IsLeastCooled, is_cooled, cooled_at}
 use Rattle.p2p_driver.specs.Happenings.{Happening, calls_of}
 use Rattle.p2p_driver.specs.Links.{is_timed, is_open, is_late, is_to_ask, ask_at, due, next_of, IsLeastDue}
 use Rattle.p2p_driver.specs.Steps.{dials_by, is_before}
@@ -84,55 +85,41 @@ module _ {C S : Type 0} (t : Duration) (h : List (Happening C S)) where
   late_calls [] are = refl
   late_calls (Happening.StreamLate n at ∷ es) are = late_calls es are.1
   late_calls (Happening.LinkLate n p at ∷ es) are = late_calls es are.1
-  late_calls (Happening.Written n p at ∷ es) are = absurd are.0
-  late_calls (Happening.Dialed n p at draw word ingress ∷ es) are = absurd are.0
-  late_calls (Happening.Undialed at ∷ es) are = absurd are.0
-  late_calls (Happening.Reached n p at ∷ es) are = absurd are.0
-  late_calls (Happening.Mistaken n p at ∷ es) are = absurd are.0
-  late_calls (Happening.Spoken n p at place ∷ es) are = absurd are.0
-  late_calls (Happening.Arrived n origin at space ∷ es) are = absurd are.0
-  late_calls (Happening.Claimed n p origin at ∷ es) are = absurd are.0
-  late_calls (Happening.Refused n p at why ∷ es) are = absurd are.0
-  late_calls (Happening.Proved n p at draw ∷ es) are = absurd are.0
-  late_calls (Happening.Unproved n p at why ∷ es) are = absurd are.0
-  late_calls (Happening.Left n at ∷ es) are = absurd are.0
-  late_calls (Happening.Ended n p at direction ∷ es) are = absurd are.0
-  late_calls (Happening.SetCame at index primary secondary torn ∷ es) are = absurd are.0
-  late_calls (Happening.StaleSetCame index primary secondary ∷ es) are = absurd are.0
-  late_calls (Happening.Heard n p at owed cause outcome ∷ es) are = absurd are.0
-  late_calls (Happening.Asked n p at owed fits question ∷ es) are = absurd are.0
-  late_calls (Happening.Given infos at ∷ es) are = absurd are.0
-  late_calls (Happening.Barred p at taken ∷ es) are = absurd are.0
-  late_calls (Happening.Parted p at ∷ es) are = absurd are.0
-  late_calls (Happening.Passed at ∷ es) are = absurd are.0
-  late_calls (Happening.Taken action ∷ es) are = absurd are.0
+  late_calls (e ∷ es) are = absurd are.0
 
   asked_calls : (es : List (Happening C S)) → AreAskedAt t es → calls_of (es ++ h) ≡ calls_of h
   asked_calls [] are = refl
   asked_calls (Happening.Asked n p at owed fits question ∷ es) are = asked_calls es are.1
-  asked_calls (Happening.StreamLate n at ∷ es) are = absurd are.0
-  asked_calls (Happening.LinkLate n p at ∷ es) are = absurd are.0
-  asked_calls (Happening.Written n p at ∷ es) are = absurd are.0
-  asked_calls (Happening.Dialed n p at draw word ingress ∷ es) are = absurd are.0
-  asked_calls (Happening.Undialed at ∷ es) are = absurd are.0
-  asked_calls (Happening.Reached n p at ∷ es) are = absurd are.0
-  asked_calls (Happening.Mistaken n p at ∷ es) are = absurd are.0
-  asked_calls (Happening.Spoken n p at place ∷ es) are = absurd are.0
-  asked_calls (Happening.Arrived n origin at space ∷ es) are = absurd are.0
-  asked_calls (Happening.Claimed n p origin at ∷ es) are = absurd are.0
-  asked_calls (Happening.Refused n p at why ∷ es) are = absurd are.0
-  asked_calls (Happening.Proved n p at draw ∷ es) are = absurd are.0
-  asked_calls (Happening.Unproved n p at why ∷ es) are = absurd are.0
-  asked_calls (Happening.Left n at ∷ es) are = absurd are.0
-  asked_calls (Happening.Ended n p at direction ∷ es) are = absurd are.0
-  asked_calls (Happening.SetCame at index primary secondary torn ∷ es) are = absurd are.0
-  asked_calls (Happening.StaleSetCame index primary secondary ∷ es) are = absurd are.0
-  asked_calls (Happening.Heard n p at owed cause outcome ∷ es) are = absurd are.0
-  asked_calls (Happening.Given infos at ∷ es) are = absurd are.0
-  asked_calls (Happening.Barred p at taken ∷ es) are = absurd are.0
-  asked_calls (Happening.Parted p at ∷ es) are = absurd are.0
-  asked_calls (Happening.Passed at ∷ es) are = absurd are.0
-  asked_calls (Happening.Taken action ∷ es) are = absurd are.0
+  asked_calls (e ∷ es) are = absurd are.0
+
+-- the node once some grants were given up: blocks and cooldowns are as before
+module _ {C S : Type 0} (d : Settings C S) (some : 1 ≤ d.max_sets) (t : Duration) (h : List (Happening C S)) (p : C) where
+  after_release : (q : C) (cs : List (Call C S)) → world_after d (Release q ∷ cs) ≡ step d (world_after d cs) (Release q)
+  after_release q cs = Law.recomputed_is_one_step d some cs (Release q)
+
+  released_block : (q : C) (grant : Option Grant) (o : Option ℕ) → unblock_after d p (release_event d q grant) o ≡ o
+  released_block q None o = refl
+  released_block q (Some grant) o = refl
+
+  released_cooldown : (q : C) (grant : Option Grant) (o : Option Cooldown) → cooldown_after d p (release_event d q grant) o ≡ o
+  released_cooldown q None o = refl
+  released_cooldown q (Some grant) o = refl
+
+  freed_blocks : (es : List (Happening C S)) → AreFreedAt t es →
+      (world_after d (calls_of (es ++ h))).unblock p ≡ (world_after d (calls_of h)).unblock p
+  freed_blocks [] are = refl
+  freed_blocks (Happening.Released q at ∷ es) are = let cs : List (Call C S) = calls_of (es ++ h) in
+      ap (λ (w : World C S). w.unblock p) (after_release q cs)
+      ∙ released_block q ((world_after d cs).held q) ((world_after d cs).unblock p) ∙ freed_blocks es are.1
+  freed_blocks (e ∷ es) are = absurd are.0
+
+  freed_cooldowns : (es : List (Happening C S)) → AreFreedAt t es →
+      (world_after d (calls_of (es ++ h))).cooldown p ≡ (world_after d (calls_of h)).cooldown p
+  freed_cooldowns [] are = refl
+  freed_cooldowns (Happening.Released q at ∷ es) are = let cs : List (Call C S) = calls_of (es ++ h) in
+      ap (λ (w : World C S). w.cooldown p) (after_release q cs)
+      ∙ released_cooldown q ((world_after d cs).held q) ((world_after d cs).cooldown p) ∙ freed_cooldowns es are.1
+  freed_cooldowns (e ∷ es) are = absurd are.0
 
 -- a grant's dial moment is later, if there is a cooldown
 granted_later : (now draw cooldown : ℕ) → 0 < cooldown → now < max_nanos → now < (moments_after now draw cooldown).dial_at
@@ -172,28 +159,7 @@ module _ {C S : Type 0} (d : Settings C S) (some : 1 ≤ d.max_sets) (t : Durati
       ∙ same_unblock q (as_nanos draw) _ _ ((world_after d cs).unblock p)
       ∙ dialed_blocks es are.1
   dialed_blocks (Happening.Undialed at ∷ es) are = dialed_blocks es are.1
-  dialed_blocks (Happening.Arrived n origin at space ∷ es) are = absurd are.0
-  dialed_blocks (Happening.Claimed n p origin at ∷ es) are = absurd are.0
-  dialed_blocks (Happening.Refused n p at why ∷ es) are = absurd are.0
-  dialed_blocks (Happening.Proved n p at draw ∷ es) are = absurd are.0
-  dialed_blocks (Happening.Unproved n p at why ∷ es) are = absurd are.0
-  dialed_blocks (Happening.Left n at ∷ es) are = absurd are.0
-  dialed_blocks (Happening.Reached n p at ∷ es) are = absurd are.0
-  dialed_blocks (Happening.Mistaken n p at ∷ es) are = absurd are.0
-  dialed_blocks (Happening.Ended n p at direction ∷ es) are = absurd are.0
-  dialed_blocks (Happening.SetCame at index primary secondary torn ∷ es) are = absurd are.0
-  dialed_blocks (Happening.StaleSetCame index primary secondary ∷ es) are = absurd are.0
-  dialed_blocks (Happening.StreamLate n at ∷ es) are = absurd are.0
-  dialed_blocks (Happening.LinkLate n p at ∷ es) are = absurd are.0
-  dialed_blocks (Happening.Written n p at ∷ es) are = absurd are.0
-  dialed_blocks (Happening.Spoken n p at place ∷ es) are = absurd are.0
-  dialed_blocks (Happening.Heard n p at owed cause outcome ∷ es) are = absurd are.0
-  dialed_blocks (Happening.Asked n p at owed fits question ∷ es) are = absurd are.0
-  dialed_blocks (Happening.Given infos at ∷ es) are = absurd are.0
-  dialed_blocks (Happening.Barred p at taken ∷ es) are = absurd are.0
-  dialed_blocks (Happening.Parted p at ∷ es) are = absurd are.0
-  dialed_blocks (Happening.Passed at ∷ es) are = absurd are.0
-  dialed_blocks (Happening.Taken action ∷ es) are = absurd are.0
+  dialed_blocks (e ∷ es) are = absurd are.0
 
   dialed_cooled : (es : List (Happening C S)) → AreDialedAt t words es → 0 < d.cooldown → as_nanos t < max_nanos →
       Cooled ((world_after d (calls_of h)).cooldown p) → Cooled ((world_after d (calls_of (es ++ h))).cooldown p)
@@ -204,28 +170,7 @@ module _ {C S : Type 0} (d : Settings C S) (some : 1 ≤ d.max_sets) (t : Durati
       ∙ ap (λ (w : World C S). w.cooldown p) (step_is q (as_nanos draw) cs)))
       (still_cooled q (as_nanos draw) _ _ ((world_after d cs).cooldown p) positive within (dialed_cooled es are.1 positive within cooled))
   dialed_cooled (Happening.Undialed at ∷ es) are positive within cooled = dialed_cooled es are.1 positive within cooled
-  dialed_cooled (Happening.Arrived n origin at space ∷ es) are positive within cooled = absurd are.0
-  dialed_cooled (Happening.Claimed n p origin at ∷ es) are positive within cooled = absurd are.0
-  dialed_cooled (Happening.Refused n p at why ∷ es) are positive within cooled = absurd are.0
-  dialed_cooled (Happening.Proved n p at draw ∷ es) are positive within cooled = absurd are.0
-  dialed_cooled (Happening.Unproved n p at why ∷ es) are positive within cooled = absurd are.0
-  dialed_cooled (Happening.Left n at ∷ es) are positive within cooled = absurd are.0
-  dialed_cooled (Happening.Reached n p at ∷ es) are positive within cooled = absurd are.0
-  dialed_cooled (Happening.Mistaken n p at ∷ es) are positive within cooled = absurd are.0
-  dialed_cooled (Happening.Ended n p at direction ∷ es) are positive within cooled = absurd are.0
-  dialed_cooled (Happening.SetCame at index primary secondary torn ∷ es) are positive within cooled = absurd are.0
-  dialed_cooled (Happening.StaleSetCame index primary secondary ∷ es) are positive within cooled = absurd are.0
-  dialed_cooled (Happening.StreamLate n at ∷ es) are positive within cooled = absurd are.0
-  dialed_cooled (Happening.LinkLate n p at ∷ es) are positive within cooled = absurd are.0
-  dialed_cooled (Happening.Written n p at ∷ es) are positive within cooled = absurd are.0
-  dialed_cooled (Happening.Spoken n p at place ∷ es) are positive within cooled = absurd are.0
-  dialed_cooled (Happening.Heard n p at owed cause outcome ∷ es) are positive within cooled = absurd are.0
-  dialed_cooled (Happening.Asked n p at owed fits question ∷ es) are positive within cooled = absurd are.0
-  dialed_cooled (Happening.Given infos at ∷ es) are positive within cooled = absurd are.0
-  dialed_cooled (Happening.Barred p at taken ∷ es) are positive within cooled = absurd are.0
-  dialed_cooled (Happening.Parted p at ∷ es) are positive within cooled = absurd are.0
-  dialed_cooled (Happening.Passed at ∷ es) are positive within cooled = absurd are.0
-  dialed_cooled (Happening.Taken action ∷ es) are positive within cooled = absurd are.0
+  dialed_cooled (e ∷ es) are positive within cooled = absurd are.0
 
 -- A LATER MOMENT, if there is one
 
@@ -287,30 +232,42 @@ module _ {C S : Type 0} (cmp : C → C → Ordering) (wire : Wire C S) where
       subst (λ n. t < n) at.4 (link_later v.pace t at.1 at.3
       (none.late.links at.0 at.1 at.2) (none.to_ask at.0 at.1 at.2))
 
+  kept_later : (t : ℕ) (v : DriverView C S) (least : Option ℕ) → NoneDue cmp t v →
+      IsLeastCooled cmp v.cooldown v.links v.next_dial.grants least → IsLater t least
+  kept_later t v None none is = tt
+  kept_later t v (Some least) none is = let at = is.1 in
+      subst (λ n. t < n) at.3 (past (cooled_at v.cooldown at.1) t (sym (ap (is_cooled v.cooldown t) at.2) ∙ none.kept at.0))
+
   module _ (now : ℕ) (words : List ℕ) (result : Result (Unit {0}) AllocError) (v v2 : DriverView C S) (stands : DriverStands cmp wire v)
       (did : TimesOut cmp wire now words result v v2) where
     abbrev b : Base C S
     b = base_of cmp wire stands.given stands.pace
 
-    -- what was done before anybody was dialled
+    -- what was done before any grant was given up
+    abbrev asked : List (Happening C S)
+    asked = did.asked ++ (did.late ++ Happening.Passed did.time ∷ stands.history)
+
+    -- .. and before anybody was dialled
     abbrev before : List (Happening C S)
-    before = did.asked ++ (did.late ++ Happening.Passed did.time ∷ stands.history)
+    before = did.freed ++ asked
 
     at : DriverStandsAt b (did.dialed ++ before) v2
     at = subst (λ k. DriverStandsAt b k v2)
-        (append_assoc did.dialed (did.asked ++ (did.late ++ Happening.Passed did.time ∷ [])) stands.history
-        ∙ ap (λ k. did.dialed ++ k) (append_assoc did.asked (did.late ++ Happening.Passed did.time ∷ []) stands.history
-        ∙ ap (λ k. did.asked ++ k) (append_assoc did.late (Happening.Passed did.time ∷ []) stands.history)))
+        (append_assoc did.dialed (did.freed ++ (did.asked ++ (did.late ++ Happening.Passed did.time ∷ []))) stands.history
+        ∙ ap (λ k. did.dialed ++ k) (append_assoc did.freed (did.asked ++ (did.late ++ Happening.Passed did.time ∷ [])) stands.history
+        ∙ ap (λ k. did.freed ++ k) (append_assoc did.asked (did.late ++ Happening.Passed did.time ∷ []) stands.history
+        ∙ ap (λ k. did.asked ++ k) (append_assoc did.late (Happening.Passed did.time ∷ []) stands.history))))
         (did.does stands.given stands.pace stands.history stands.stands)
 
     -- what was asked of the node then
-    calls : calls_of before ≡ UnblockExpired (as_nanos did.time) ∷ ForgetCooled (as_nanos did.time) ∷ calls_of stands.history
+    calls : calls_of asked ≡ UnblockExpired (as_nanos did.time) ∷ ForgetCooled (as_nanos did.time) ∷ calls_of stands.history
     calls = asked_calls did.time (did.late ++ Happening.Passed did.time ∷ stands.history) did.asked did.are_asked
         ∙ late_calls did.time (Happening.Passed did.time ∷ stands.history) did.late did.are_late
 
     blocks : (p : C) (n : ℕ) → unblock_of cmp v2.node.directory p ≡ Some n → max v.latest now < n
     blocks p n is = subst (λ k. k < n) did.time_is (unblock_later b.made.directory stands.given.cfg.max_sets.ok (calls_of stands.history)
         (as_nanos did.time) p n (sym (ap (λ cs. (world_after b.made.directory cs).unblock p) calls)
+        ∙ sym (freed_blocks b.made.directory stands.given.cfg.max_sets.ok did.time asked p did.freed did.are_freed)
         ∙ sym (dialed_blocks b.made.directory stands.given.cfg.max_sets.ok did.time words before p did.dialed did.are_dialed)
         ∙ sym (at.node.refines.blocks p) ∙ is))
 
@@ -321,7 +278,8 @@ module _ {C S : Type 0} (cmp : C → C → Ordering) (wire : Wire C S) where
         cooled = dialed_cooled b.made.directory stands.given.cfg.max_sets.ok did.time words before p did.dialed did.are_dialed positive
             (subst (λ k. k < max_nanos) (sym did.time_is) fits)
             (λ c is. dial_later b.made.directory stands.given.cfg.max_sets.ok (calls_of stands.history) (as_nanos did.time) p c
-            (sym (ap (λ cs. (world_after b.made.directory cs).cooldown p) calls) ∙ is))
+            (sym (ap (λ cs. (world_after b.made.directory cs).cooldown p) calls)
+            ∙ sym (freed_cooldowns b.made.directory stands.given.cfg.max_sets.ok did.time asked p did.freed did.are_freed) ∙ is))
 
         go : (o : Option Cooldown) → cooldown_of cmp v2.node.directory p ≡ o → option_map (λ c. c.dial_at) o ≡ Some n → max v.latest now < n
         go None has is = absurd (no_some n is)
@@ -351,8 +309,11 @@ module _ {C S : Type 0} (cmp : C → C → Ordering) (wire : Wire C S) where
         max v.latest now < max_nanos → (next : Option ℕ) → IsNextTimeout cmp v2 next → IsLater (max v.latest now) next
     next_is_later none nobody positive fits next is =
         subst (IsLater (max v.latest now)) (sym is.next_is)
-        (earlier_later (max v.latest now) (held_moment (dial_due v2)) (earlier (earlier (held_moment is.stream) (held_moment is.link)) (earlier is.block is.cooldown))
+        (earlier_later (max v.latest now) (earlier (held_moment (dial_due v2)) (held_moment is.kept))
+        (earlier (earlier (held_moment is.stream) (held_moment is.link)) (earlier is.block is.cooldown))
+        (earlier_later (max v.latest now) (held_moment (dial_due v2)) (held_moment is.kept)
         (held_later (max v.latest now) (dial_due v2) fits (dial_later_due nobody))
+        (held_later (max v.latest now) is.kept fits (kept_later (max v.latest now) v2 is.kept none is.grants)))
         (earlier_later (max v.latest now) (earlier (held_moment is.stream) (held_moment is.link)) (earlier is.block is.cooldown)
         (earlier_later (max v.latest now) (held_moment is.stream) (held_moment is.link)
         (held_later (max v.latest now) is.stream fits (streams_later (max v.latest now) (as_nanos v2.pace.first) (as_nanos v2.pace.handshake) 0 _ v2.arrivals

@@ -6,12 +6,15 @@ pub mod Crowded
 pub mod Fairness
 pub mod Answered
 pub mod Linked
+pub mod Entries
 pub mod Due
+pub mod KeptGrants
 mod Shutting
 mod Fewer
 mod Called
 mod StreamHistory
 mod LinkHistory
+mod GrantHistory
 mod Dials
 mod Unused
 mod Metered
@@ -34,6 +37,7 @@ mod Budget
 mod Numbers
 mod Lasting
 mod DrivingLinks
+mod DrivingGrants
 mod DrivingApplication
 mod DrivingFrames
 mod DrivingReads

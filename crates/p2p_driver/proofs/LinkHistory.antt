@@ -9,6 +9,7 @@ use Rattle.p2p_tracker.specs.Calls.{Settings}
 use Rattle.p2p_tracker.specs.History.{same, last_with, found_with}
 use Rattle.p2p_driver.specs.declared.links.Asked.{Asked}
 use Rattle.p2p_driver.specs.declared.links.Direction.{Direction}
+use Rattle.p2p_driver.specs.declared.links.Direction.TheVariants as way
 use Rattle.p2p_driver.specs.declared.links.Held.{Held}
 use Rattle.p2p_driver.specs.declared.links.Phase.{Phase}
 use Rattle.p2p_driver.specs.declared.links.Phase.TheVariants as phase
@@ -20,7 +21,7 @@ use Rattle.p2p_driver.specs.Questions.{asked_after, counted}
 use Rattle.p2p_driver.specs.Frames.{Cause, Outcome, waiting_by}
 use Rattle.p2p_driver.specs.Looked.{LookedView}
 use Rattle.p2p_driver.specs.Happenings.{Happening, link_at, link_since, opened_by, ends_by, closes_by, greets_by, heard_by, phase_of, owed_by, tried_by, index_by, newest_by, index_tried, newest_tried, tried_with, kept_of, last_heard, last_tried, last_looked, asked_in, is_closing, is_greeted, is_heard, looked_by, looks_by, heard_as, says_on, said_as, said_with, writes_by, unwritten_in, reached_by, way_of, proved_at, first_said}
-use Rattle.p2p_driver.specs.Links.{link_with, dial_with, reached, proved_way, greeted, unless_closing, hearing, opened, asking, allowing, saying, with_said, writing, closed}
+use Rattle.p2p_driver.specs.Links.{link_with, link_as, taken_way, dial_with, reached, proved_way, greeted, unless_closing, hearing, opened, asking, allowing, saying, with_said, writing, closed}
 
 -- a phase once the link was closed, or greeted on
 abbrev pub phase_after : Bool → Bool → Phase → Phase
@@ -382,6 +383,13 @@ kept_step n way t c g heard o tried looked ph last owed asked last_seen written 
   unwritten = unwritten_after written said unwritten;
 }
 
+-- a dial that was proved stays outbound
+proved_once : (way : Direction) → proved_way (proved_way way) ≡ proved_way way
+proved_once way.Inbound = refl
+proved_once way.Dialing = refl
+proved_once way.Outbound = refl
+proved_once way.TakenOver = refl
+
 -- what is kept of questions, by its parts
 abbrev asked_at : Duration → Option ℕ → ℕ → Asked
 asked_at at index rounds = record { at = at; index = index; rounds = rounds }
@@ -406,13 +414,12 @@ module _ {C S : Type 0} (s : Settings C S) where
     reaches = reached_by s p e;
   }
 
-  way_step : (dial : Bool) (e : Happening C S) (reaches : Option Duration) (found : Option (Duration × List (Happening C S))) →
-      way_of s dial (is_some (found_with reaches e found)) ≡ way_after reaches (way_of s dial (is_some found))
-  way_step false e (Some t) found = refl
-  way_step true e (Some t) None = refl
-  way_step true e (Some t) (Some found) = refl
-  way_step dial e None None = refl
-  way_step dial e None (Some found) = refl
+  way_step : (began : Direction) (e : Happening C S) (reaches : Option Duration) (found : Option (Duration × List (Happening C S))) →
+      way_of s began (is_some (found_with reaches e found)) ≡ way_after reaches (way_of s began (is_some found))
+  way_step began e (Some t) None = refl
+  way_step began e (Some t) (Some found) = sym (proved_once began)
+  way_step began e None None = refl
+  way_step began e None (Some found) = refl
 
   proved_step : (t : Duration) (e : Happening C S) (reaches : Option Duration) (found : Option (Duration × List (Happening C S))) →
       proved_at s t (found_with reaches e found) ≡ since_after reaches (proved_at s t found)
@@ -474,28 +481,28 @@ module _ {C S : Type 0} (s : Settings C S) where
           ∙ ap (asked_at now (first_of q.index (option_map (λ x. x.0) (last_with (index_by s p) since))))
           (counted_more q.newest (count_by (newest_by s p) since))
 
-  kept_later : (p : C) (e : Happening C S) (n : ℕ) (dial : Bool) (t : Duration) (since : List (Happening C S)) →
-      kept_of s p n dial t (e ∷ since) ≡ touched (touch_by p e) (kept_of s p n dial t since)
-  kept_later p e n dial t since =
+  kept_later : (p : C) (e : Happening C S) (n : ℕ) (began : Direction) (t : Duration) (since : List (Happening C S)) →
+      kept_of s p n began t (e ∷ since) ≡ touched (touch_by p e) (kept_of s p n began t since)
+  kept_later p e n began t since =
       let ph : Phase = phase_of (list_any (closes_by s p) since) (list_any (greets_by s p) since) in
       let last : Duration × Option Waiting = last_heard s t (last_with (heard_by s p) since) in
       let owed : ℕ = unwrap_or (option_map (λ x. x.0) (last_with (owed_by s p) since)) 0 in
       let seen : Option LookedView = last_looked s (last_with (looks_by s p) since) in
-      let way : Direction = way_of s dial (is_some (last_with (reached_by s p) since)) in
+      let way : Direction = way_of s began (is_some (last_with (reached_by s p) since)) in
       let at : Duration = proved_at s t (last_with (reached_by s p) since) in
       (λ i. kept_with n
-      (way_step dial e (reached_by s p e) (last_with (reached_by s p) since) i)
+      (way_step began e (reached_by s p e) (last_with (reached_by s p) since) i)
       (proved_step t e (reached_by s p e) (last_with (reached_by s p) since) i)
       (phase_step (closes_by s p e) (list_any (closes_by s p) since) (greets_by s p e) (list_any (greets_by s p) since) i)
       (last_step t e (heard_by s p e) (last_with (heard_by s p) since) i)
       (owed_step e (owed_by s p e) (last_with (owed_by s p) since) i)
       (asked_step p t e since i)
       (looks_step e (looks_by s p e) (last_with (looks_by s p) since) i)
-      (unwritten_in s p (first_said s dial t) (e ∷ since)))
+      (unwritten_in s p (first_said s began t) (e ∷ since)))
       ∙ kept_step n way at (closes_by s p e) (greets_by s p e) (heard_by s p e) (owed_by s p e) (tried_by s p e) (looks_by s p e) ph last owed
-      (asked_in s p t since) seen (writes_by s p e) (says_on s p e) (reached_by s p e) (unwritten_in s p (first_said s dial t) since)
+      (asked_in s p t since) seen (writes_by s p e) (says_on s p e) (reached_by s p e) (unwritten_in s p (first_said s began t) since)
 
-  later : (p : C) (e : Happening C S) (found : Option ((ℕ × Bool × Duration) × List (Happening C S))) →
+  later : (p : C) (e : Happening C S) (found : Option ((ℕ × Direction × Duration) × List (Happening C S))) →
       link_since s p (found_with None e found) ≡ link_after (ends_by s p e) (touch_by p e) (link_since s p found)
   later p e None = refl
   later p e (Some found) = go (ends_by s p e) (list_any (ends_by s p) found.1) (kept_later p e found.0.0 found.0.1 found.0.2 found.1)
@@ -527,11 +534,24 @@ module _ {C S : Type 0} (s : Settings C S) where
       link_at s p (Happening.Proved n q t draw ∷ h) ≡ (if same s q p then Some (link_with n t) else link_at s p h)
   link_opens p q n t draw h = go (same s q p)
     where
-      go : (b : Bool) → link_since s p (found_with (if b then Some (n, false, t) else None)
+      go : (b : Bool) → link_since s p (found_with (if b then Some (n, way.Inbound, t) else None)
           (Happening.Proved n q t draw) (last_with (opened_by s p) h))
           ≡ (if b then Some (link_with n t) else link_at s p h)
       go true = refl
       go false = later p (Happening.Proved n q t draw) (last_with (opened_by s p) h)
+          ∙ unchanged_link (link_at s p h)
+
+  -- .. by which a stream of q took over a grant
+  pub link_adopts : (p q : C) (n : ℕ) (t : Duration) (outbound : Bool) (h : List (Happening C S)) →
+      link_at s p (Happening.Adopted n q t outbound ∷ h) ≡ (if same s q p then Some (link_as (taken_way outbound) n t) else link_at s p h)
+  link_adopts p q n t outbound h = go (same s q p) outbound
+    where
+      go : (b out : Bool) → link_since s p (found_with (if b then Some (n, taken_way out, t) else None)
+          (Happening.Adopted n q t outbound) (last_with (opened_by s p) h))
+          ≡ (if b then Some (link_as (taken_way out) n t) else link_at s p h)
+      go true true = refl
+      go true false = refl
+      go false out = later p (Happening.Adopted n q t outbound) (last_with (opened_by s p) h)
           ∙ unchanged_link (link_at s p h)
 
   -- .. a dial of q did
@@ -539,7 +559,7 @@ module _ {C S : Type 0} (s : Settings C S) where
       link_at s p (Happening.Dialed n q t draw word ingress ∷ h) ≡ (if same s q p then Some (dial_with n t) else link_at s p h)
   link_dials p q n t draw word ingress h = go (same s q p)
     where
-      go : (b : Bool) → link_since s p (found_with (if b then Some (n, true, t) else None)
+      go : (b : Bool) → link_since s p (found_with (if b then Some (n, way.Dialing, t) else None)
           (Happening.Dialed n q t draw word ingress) (last_with (opened_by s p) h))
           ≡ (if b then Some (dial_with n t) else link_at s p h)
       go true = refl

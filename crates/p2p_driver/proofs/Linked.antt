@@ -1,7 +1,7 @@
 -- Links of peers, as they are kept by peer and by number.
 use Rattle.std.proofs.Common.{◌≡◌, ◌≤◌, ◌<◌, ◌+◌, ℕ, Bool, true, false, cond, List, [], ◌∷◌}
 use Rattle.std.proofs.Common.{Option, Some, None, refl, sym, ◌∙◌, ap, subst, arith}
-use Rattle.std.proofs.Common.{Less, Equal, Greater, inl, inr}
+use Rattle.std.proofs.Common.{Less, Greater, inl, inr}
 use Rattle.std.specs.Prelude.{IfSome, IfNone, is_some, option_map, unwrap_or, if◌then◌else◌, max, nat_le, ◌&&◌}
 use Rattle.std.specs.Duration.{as_nanos}
 use Rattle.std.proofs.lemmas.Bool.Decides.{nat_tests}
@@ -13,7 +13,7 @@ use Rattle.std.specs.HashMap.Eq.{lookup_congr}
 use Rattle.std.specs.List.Sorted.{IsStrictlySortedBy}
 use Rattle.std.specs.Map.{lookup, keys_of, remove_entry, set_value}
 use Rattle.std.specs.Option.{IsSomeAnd, IsSome}
-use Rattle.std.specs.Ordering.{nat_cmp, eq_by_cmp, match_ordering, is_eq}
+use Rattle.std.specs.Ordering.{nat_cmp, eq_by_cmp, is_eq}
 use Rattle.std.specs.Cmp.{nat_cmp_is}
 use Rattle.std.proofs.lemmas.Bool.{cases_lt}
 use Rattle.std.proofs.lemmas.Cmp.{nat_cmp_total}
@@ -21,7 +21,7 @@ use Rattle.std.proofs.lemmas.Map.{lookup-set_value}
 use Rattle.std.proofs.lemmas.Map.Entries.{sum_by-remove_entry, sum_by-set_value, sum_by-insert_entry}
 use Rattle.p2p_driver.specs.declared.links.Asked.{Asked}
 use Rattle.p2p_driver.specs.declared.links.Direction.{Direction}
-use Rattle.p2p_driver.specs.declared.links.Direction.TheVariants.{Inbound, Dialing, Outbound}
+use Rattle.p2p_driver.specs.declared.links.Direction.TheVariants.{Inbound, Dialing, Outbound, TakenOver}
 use Rattle.p2p_driver.specs.declared.links.Held.{Held}
 use Rattle.p2p_driver.specs.declared.links.Phase.{Phase}
 use Rattle.p2p_driver.specs.declared.links.Phase.TheVariants as phase
@@ -259,6 +259,7 @@ module _ {C : Type 0} {cmp : C → C → Ordering} (total : IsTotalOrder cmp) wh
         dialed Inbound is = cc
         dialed Dialing is = refl
         dialed Outbound is = cc
+        dialed TakenOver is = cc
 
         go : (o : Option Held) → link_of cmp links peer ≡ o → IsSomeAnd o (λ h. is_dialing h ≡ true) →
             count_of way new + (if is_way way Dialing then 1 else 0) ≡ count_of way links + (if is_way way Outbound then 1 else 0)
@@ -507,28 +508,3 @@ module _ {C : Type 0} {cmp : C → C → Ordering} (total : IsTotalOrder cmp) wh
               go false at_number = subst (λ o. IsSomeAnd o (λ p. is_at (cmp p) q ≡ true))
                   (sym (gone2 h.number ∙ ap (λ b. cond b None (at h.number)) at_number))
                   (inverse.back q h is)
-
-  -- a link that is put and then removed leaves the links as they were
-  pub put_back : (v v1 v2 : List (C × Held)) (peer : C) (held : Held) → link_of cmp v peer ≡ None →
-      v1 ≡ insert_entry cmp v peer held → v2 ≡ remove_entry (is_at (cmp peer)) v1 → v2 ≡ v
-  put_back v v1 v2 peer held none put removed =
-      removed ∙ ap (remove_entry (is_at (cmp peer))) put ∙ by v none
-    where
-      by : (es : List (C × Held)) → link_of cmp es peer ≡ None →
-          remove_entry (is_at (cmp peer)) (insert_entry cmp es peer held) ≡ es
-      by [] none = ap (λ b. cond b [] ((peer, held) ∷ [])) (laws.refl peer)
-      by (e ∷ es) none = go (cmp peer e.0) refl (by es)
-        where
-          go : (o : Ordering) → cmp peer e.0 ≡ o → (link_of cmp es peer ≡ None →
-              remove_entry (is_at (cmp peer)) (insert_entry cmp es peer held) ≡ es) →
-              remove_entry (is_at (cmp peer)) (match_ordering o ((peer, held) ∷ e ∷ es)
-              ((e.0, held) ∷ es) (e ∷ insert_entry cmp es peer held)) ≡ e ∷ es
-          go Less is rest = ap (λ b. cond b (e ∷ es) ((peer, held) ∷ remove_entry (is_at (cmp peer)) (e ∷ es)))
-              (laws.refl peer)
-          go Equal is rest = absurd (let f = sym (ap (λ o. cond (is_eq o) (Some e.1) (link_of cmp es peer)) is)
-              ∙ none in cc)
-          go Greater is rest =
-              ap (λ o. cond (is_eq o) (insert_entry cmp es peer held)
-              (e ∷ remove_entry (is_at (cmp peer)) (insert_entry cmp es peer held))) is
-              ∙ ap (λ fs. e ∷ fs) (rest (sym (ap (λ o. cond (is_eq o) (Some e.1) (link_of cmp es peer)) is)
-              ∙ none))

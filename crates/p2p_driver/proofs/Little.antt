@@ -125,29 +125,16 @@ module _ {C S : Type 0} (b : Base C S) (h : List (Happening C S)) where
   -- what is no set says at most three actions
   pub few_said : (e : Happening C S) → is_set e ≡ false → length (says_by d b.greeting h e) ≤ 3
   few_said (Happening.Arrived n origin t space) is = let few = crowded_few C space in omega (arith, few)
-  few_said (Happening.Claimed n p origin t) is = omega arith
-  few_said (Happening.Refused n p t w) is = omega arith
-  few_said (Happening.Proved n p t draw) is = omega arith
-  few_said (Happening.Unproved n p t w) is = omega arith
-  few_said (Happening.Left n t) is = omega arith
-  few_said (Happening.Dialed n p t draw word ingress) is = omega arith
-  few_said (Happening.Undialed t) is = omega arith
-  few_said (Happening.Reached n p t) is = omega arith
   few_said (Happening.Mistaken n p t) is = let few = shut_few p why.WrongKey (link_at d p h) in omega (arith, few)
   few_said (Happening.Ended n p t direction) is = let few = parted_few p (link_at d p h) in omega (arith, few)
+  few_said (Happening.Failed n p t direction) is = let few = parted_few p (link_at d p h) in omega (arith, few)
   few_said (Happening.SetCame t index primary secondary torn) is = absurd cc
-  few_said (Happening.StaleSetCame index primary secondary) is = omega arith
-  few_said (Happening.StreamLate n t) is = omega arith
   few_said (Happening.LinkLate n p t) is = let few = shut_few p (why_late (link_at d p h)) (link_at d p h) in omega (arith, few)
-  few_said (Happening.Written n p t) is = omega arith
-  few_said (Happening.Spoken n p t place) is = omega arith
   few_said (Happening.Heard n p t owed cause outcome) is = answered_few n p outcome (link_at d p h)
   few_said (Happening.Asked n p t owed fits question) is = let few = asked_few C n question in omega (arith, few)
-  few_said (Happening.Given infos t) is = omega arith
   few_said (Happening.Barred p t taken) is = let few = shut_few p why.Blocked (link_at d p h) in omega (arith, few)
   few_said (Happening.Parted p t) is = let few = shut_few p why.Application (link_at d p h) in omega (arith, few)
-  few_said (Happening.Passed t) is = omega arith
-  few_said (Happening.Taken action) is = omega arith
+  few_said e is = omega arith
 
   -- a set says at most two for each link
   pub set_says : (v : DriverView C S) → DriverStandsAt b h v → IsTotalOrder d.cmp → (t : Duration) (index : ℕ) (primary secondary torn : List C) →

@@ -17,7 +17,6 @@ use Rattle.p2p_driver.specs.Meters.{MetersView}
 use Rattle.p2p_driver.specs.Reading.{is_of, kind_at_rate, rate_at, begins_as, ends_as, read_by, read_in, IsMetered, IsMeteredIf, IsMeteredSince, AreMetered}
 use Rattle.p2p_driver.specs.Reads.{reads_of, unread, kept_in, Takes}
 use Rattle.p2p_driver.specs.declared.heads.Kind.{Kind}
-use Rattle.p2p_driver.specs.declared.links.Direction.{Direction}
 use Rattle.p2p_driver.specs.declared.heads.Kind.TheVariants as kind
 use Rattle.p2p_driver.specs.declared.pace.Pace.{Pace}
 use Rattle.p2p_driver.specs.declared.rate.Rate.{Rate}
@@ -145,16 +144,15 @@ module _ {C S : Type 0} (pace : Pace) where
               (if_stays (list_any (ends_as j) found.1) now j e found.1 (reads_of reads j) (none j) kept)
 
   -- NOTHING IS KEPT of a link that ended
-  pub metered_ends : (now n : ℕ) (p : C) (t : Duration) (direction : Direction) (h : List (Happening C S)) (reads reads2 : List (ℕ × MetersView)) →
+  pub metered_ends : (now n : ℕ) (e : Happening C S) → ((j : ℕ) → begins_as j e ≡ None) → ((j : ℕ) → ends_as j e ≡ (n == j)) →
+      ((j : ℕ) (place : Option ℕ) → read_by j place e ≡ []) → (h : List (Happening C S)) (reads reads2 : List (ℕ × MetersView)) →
       ((j : ℕ) → reads_of reads2 j ≡ (if j == n then None else reads_of reads j)) →
-      AreMetered pace now h reads → AreMetered pace now (Happening.Ended n p t direction ∷ h) reads2
-  metered_ends now n p t direction h reads reads2 tied kept j = go (n == j) refl
+      AreMetered pace now h reads → AreMetered pace now (e ∷ h) reads2
+  metered_ends now n e begins ends unread h reads reads2 tied kept j = go (n == j) refl
     where
-      e : Happening C S
-      e = Happening.Ended n p t direction
-
-      go : (b : Bool) → (n == j) ≡ b → IsMeteredSince pace now j (found_with None e (last_with (begins_as j) h)) (reads_of reads2 j)
-      go true same = gone (last_with (begins_as j) h)
+      go : (b : Bool) → (n == j) ≡ b → IsMeteredSince pace now j (found_with (begins_as j e) e (last_with (begins_as j) h)) (reads_of reads2 j)
+      go true same = subst (λ o. IsMeteredSince pace now j (found_with o e (last_with (begins_as j) h)) (reads_of reads2 j)) (sym (begins j))
+          (gone (last_with (begins_as j) h))
         where
           other : (j == n) ≡ true
           other = grind (arith, nat_tests)
@@ -164,10 +162,10 @@ module _ {C S : Type 0} (pace : Pace) where
 
           gone : (found : Option (Duration × List (Happening C S))) → IsMeteredSince pace now j (found_with None e found) (reads_of reads2 j)
           gone None = none
-          gone (Some found) = subst (λ b. IsMeteredIf (b || list_any (ends_as j) found.1) pace now j (e ∷ found.1) (reads_of reads2 j)) (sym same) none
-      go false same = subst (IsMeteredSince pace now j (found_with None e (last_with (begins_as j) h)))
+          gone (Some found) = subst (λ b. IsMeteredIf (b || list_any (ends_as j) found.1) pace now j (e ∷ found.1) (reads_of reads2 j)) (sym (ends j ∙ same)) none
+      go false same = subst (IsMeteredSince pace now j (found_with (begins_as j e) e (last_with (begins_as j) h)))
           (sym (tied j ∙ ap (λ b. if b then None else reads_of reads j) other))
-          (since_stays now j e (last_with (begins_as j) h) (reads_of reads j) refl same (λ place. refl) (kept j))
+          (since_stays now j e (last_with (begins_as j) h) (reads_of reads j) (begins j) (ends j ∙ same) (unread j) (kept j))
         where
           other : (j == n) ≡ false
           other = grind (arith, nat_tests)

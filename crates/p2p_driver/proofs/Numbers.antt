@@ -6,7 +6,6 @@ use Rattle.std.proofs.lemmas.Map.Views.{tells_apart}
 use Rattle.std.proofs.lemmas.Map.Lookups.{CmpEqualImpliesEq}
 use Rattle.std.specs.Prelude.{if◌then◌else◌, is_some}
 use Rattle.std.specs.declared.time.Duration.{Duration}
-use Rattle.p2p_discovery.specs.declared.types.ingress.Ingress.{Ingress}
 use Rattle.p2p_tracker.specs.Calls.{Settings}
 use Rattle.p2p_tracker.specs.History.{same}
 use Rattle.p2p_driver.specs.declared.arrivals.Arrival.{Arrival}
@@ -14,10 +13,10 @@ use Rattle.p2p_driver.specs.declared.links.Held.{Held}
 use Rattle.p2p_driver.specs.declared.origin.Origin.{Origin}
 use Rattle.p2p_driver.specs.Arrivals.{has_number}
 use Rattle.p2p_driver.specs.Happenings.{Happening, next_at, stream_at, came_by, leaves_by, claim_by, opened_by, ends_by, is_new}
-use Rattle.p2p_driver.specs.Links.{link_with, dial_with}
+use Rattle.p2p_driver.specs.Links.{link_with, link_as, taken_way, dial_with}
 use Rattle.p2p_driver.specs.Drivers.{Base, AreRight, Rise, link, is_claimed, is_claim_by}
 use Rattle.p2p_driver.proofs.Budget.{streams_of}
-use Rattle.p2p_driver.proofs.LinkHistory.{Touch, touch_by, link_after, link_later, link_opens, link_dials}
+use Rattle.p2p_driver.proofs.LinkHistory.{Touch, touch_by, link_after, link_later, link_opens, link_adopts, link_dials}
 use Rattle.p2p_driver.proofs.StreamHistory.{stream_after, stream_later, next_stays, next_rises}
 
 some_is : {A : Type 0} {x y : A} → Some x ≡ Some y → x ≡ y
@@ -25,6 +24,9 @@ some_is e = cc
 
 no_link : (g : Held) → ¬ (None ≡ Some g)
 no_link g is = cc
+
+itself : (n : ℕ) → (n == n) ≡ true
+itself n = grind (arith, nat_tests)
 
 -- a link that is there was there before, of the same number
 pub before : (ends : Bool) (touch : Touch) (o : Option Held) (g : Held) → link_after ends touch o ≡ Some g →
@@ -109,6 +111,29 @@ module _ {C S : Type 0} (b : Base C S) where
       go None below = refl
       go (Some a) below = let less = below refl in absurd (omega (arith, less, next))
 
+  -- a stream that was proved left
+  pub left_by : (e : Happening C S) (n : ℕ) (r : C) (h : List (Happening C S)) → AreRight b h → is_claimed b h n r ≡ true →
+      came_by n e ≡ None → claim_by n e ≡ None → leaves_by n e ≡ true → IsOver (e ∷ h) n
+  left_by e n r h right claimed none claim leaves = (
+    stream_later n e h none ∙ ap (λ x. stream_after x (claim_by n e) (stream_at n h)) leaves
+        ∙ ap (λ o. stream_after true o (stream_at n h)) claim ∙ gone (stream_at n h),
+    omega (arith, no_fewer e h, number_below h right n (claimed_is_there h n r claimed)),
+  )
+    where
+      gone : (o : Option (Arrival C)) → stream_after true None o ≡ None
+      gone None = refl
+      gone (Some a) = refl
+
+  -- .. where a link began on it
+  over_begun : (e : Happening C S) (n : ℕ) (r : C) (new : Held) (h : List (Happening C S)) (p : C) (g : Held) → IsOver (e ∷ h) n → new.number ≡ n →
+      ((m : ℕ) → came_by m e ≡ None) → link b p (e ∷ h) ≡ (if same d r p then Some new else link b p h) →
+      link b p (e ∷ h) ≡ Some g → (link b p h ≡ Some g → IsOver h g.number) → IsOver (e ∷ h) g.number
+  over_begun e n r new h p g over number came tied is rest = go (same d r p) (sym tied ∙ is)
+    where
+      go : (x : Bool) → (if x then Some new else link b p h) ≡ Some g → IsOver (e ∷ h) g.number
+      go true is = subst (IsOver (e ∷ h)) (sym number ∙ ap (λ (x : Held). x.number) (some_is is)) over
+      go false is = still_over e h g.number (came g.number) (rest is)
+
   -- the stream of each link came, and left
   pub over : (h : List (Happening C S)) → AreRight b h → (p : C) (g : Held) → link b p h ≡ Some g → IsOver h g.number
   over [] right p g is = absurd cc
@@ -121,59 +146,28 @@ module _ {C S : Type 0} (b : Base C S) where
           differs next below = grind (arith, nat_tests)
   over (Happening.Claimed n r origin t ∷ h) right p g is = step (Happening.Claimed n r origin t) h p refl (λ n below. refl) (λ g is. over h right.2 p g is) g is
   over (Happening.Refused n r t why ∷ h) right p g is = step (Happening.Refused n r t why) h p refl (λ n below. refl) (λ g is. over h right.2 p g is) g is
-  over (Happening.Proved n r t draw ∷ h) right p g is =
-      go (same d r p) (sym (link_opens d p r n t draw h) ∙ is) (λ is. over h right.2 p g is)
-    where
-      e : Happening C S
-      e = Happening.Proved n r t draw
-
-      itself : (n == n) ≡ true
-      itself = grind (arith, nat_tests)
-
-      there : is_some (stream_at n h) ≡ true
-      there = claimed_is_there h n r right.0.0
-
-      go : (x : Bool) → (if x then Some (link_with n t) else link b p h) ≡ Some g →
-          (link b p h ≡ Some g → IsOver h g.number) → IsOver (e ∷ h) g.number
-      go true is rest = subst (IsOver (e ∷ h)) (ap (λ (x : Held). x.number) (some_is is)) (
-        stream_later n e h refl ∙ ap (λ x. stream_after x None (stream_at n h)) itself ∙ gone (stream_at n h),
-        omega (arith, no_fewer e h, number_below h right.2 n there),
-      )
-        where
-          gone : (o : Option (Arrival C)) → stream_after true None o ≡ None
-          gone None = refl
-          gone (Some a) = refl
-      go false is rest = still_over e h g.number refl (rest is)
+  over (Happening.Proved n r t draw ∷ h) right p g is = let e : Happening C S = Happening.Proved n r t draw in
+      over_begun e n r (link_with n t) h p g (left_by e n r h right.2 right.0.0 refl refl (itself n)) refl (λ m. refl)
+      (link_opens d p r n t draw h) is (λ is. over h right.2 p g is)
+  over (Happening.Adopted n r t outbound ∷ h) right p g is = let e : Happening C S = Happening.Adopted n r t outbound in
+      over_begun e n r (link_as (taken_way outbound) n t) h p g (left_by e n r h right.2 right.0.0 refl refl (itself n)) refl (λ m. refl)
+      (link_adopts d p r n t outbound h) is (λ is. over h right.2 p g is)
   over (Happening.Unproved n r t why ∷ h) right p g is = step (Happening.Unproved n r t why) h p refl (λ n below. refl) (λ g is. over h right.2 p g is) g is
   over (Happening.Left n t ∷ h) right p g is = step (Happening.Left n t) h p refl (λ n below. refl) (λ g is. over h right.2 p g is) g is
-  over (Happening.Dialed n r t draw word ingress ∷ h) right p g is =
-      go (same d r p) (sym (link_dials d p r n t draw word ingress h) ∙ is) (λ is. over h right.2 p g is)
-    where
-      e : Happening C S
-      e = Happening.Dialed n r t draw word ingress
-
-      go : (x : Bool) → (if x then Some (dial_with n t) else link b p h) ≡ Some g →
-          (link b p h ≡ Some g → IsOver h g.number) → IsOver (e ∷ h) g.number
-      go true is rest = subst (IsOver (e ∷ h)) (ap (λ (x : Held). x.number) (some_is is))
-          (next_is_over e h right.2 n right.0.number refl refl refl refl)
-      go false is rest = still_over e h g.number refl (rest is)
-  over (Happening.Undialed t ∷ h) right p g is = step (Happening.Undialed t) h p refl (λ n below. refl) (λ g is. over h right.2 p g is) g is
+  over (Happening.Dialed n r t draw word ingress ∷ h) right p g is = let e : Happening C S = Happening.Dialed n r t draw word ingress in
+      over_begun e n r (dial_with n t) h p g (next_is_over e h right.2 n right.0.number refl refl refl refl) refl (λ m. refl)
+      (link_dials d p r n t draw word ingress h) is (λ is. over h right.2 p g is)
   over (Happening.Reached n r t ∷ h) right p g is = step (Happening.Reached n r t) h p refl (λ n below. refl) (λ g is. over h right.2 p g is) g is
   over (Happening.Mistaken n r t ∷ h) right p g is = step (Happening.Mistaken n r t) h p refl (λ n below. refl) (λ g is. over h right.2 p g is) g is
   over (Happening.Ended n r t direction ∷ h) right p g is = step (Happening.Ended n r t direction) h p refl (λ n below. refl) (λ g is. over h right.2 p g is) g is
-  over (Happening.SetCame t index primary secondary torn ∷ h) right p g is = step (Happening.SetCame t index primary secondary torn) h p refl (λ n below. refl) (λ g is. over h right.2 p g is) g is
-  over (Happening.StaleSetCame index primary secondary ∷ h) right p g is = step (Happening.StaleSetCame index primary secondary) h p refl (λ n below. refl) (λ g is. over h right.2 p g is) g is
+  over (Happening.Failed n r t direction ∷ h) right p g is = step (Happening.Failed n r t direction) h p refl (λ n below. refl) (λ g is. over h right.2 p g is) g is
   over (Happening.StreamLate n t ∷ h) right p g is = step (Happening.StreamLate n t) h p refl (λ n below. refl) (λ g is. over h right.2 p g is) g is
   over (Happening.LinkLate n r t ∷ h) right p g is = step (Happening.LinkLate n r t) h p refl (λ n below. refl) (λ g is. over h right.2 p g is) g is
   over (Happening.Written n r t ∷ h) right p g is = step (Happening.Written n r t) h p refl (λ n below. refl) (λ g is. over h right.2 p g is) g is
   over (Happening.Spoken n r t place ∷ h) right p g is = step (Happening.Spoken n r t place) h p refl (λ n below. refl) (λ g is. over h right.2 p g is) g is
   over (Happening.Heard n r t owed cause outcome ∷ h) right p g is = step (Happening.Heard n r t owed cause outcome) h p refl (λ n below. refl) (λ g is. over h right.2 p g is) g is
   over (Happening.Asked n r t owed fits question ∷ h) right p g is = step (Happening.Asked n r t owed fits question) h p refl (λ n below. refl) (λ g is. over h right.2 p g is) g is
-  over (Happening.Given infos t ∷ h) right p g is = step (Happening.Given infos t) h p refl (λ n below. refl) (λ g is. over h right.2 p g is) g is
-  over (Happening.Barred r t taken ∷ h) right p g is = step (Happening.Barred r t taken) h p refl (λ n below. refl) (λ g is. over h right.2 p g is) g is
-  over (Happening.Parted r t ∷ h) right p g is = step (Happening.Parted r t) h p refl (λ n below. refl) (λ g is. over h right.2 p g is) g is
-  over (Happening.Passed t ∷ h) right p g is = step (Happening.Passed t) h p refl (λ n below. refl) (λ g is. over h right.2 p g is) g is
-  over (Happening.Taken action ∷ h) right p g is = step (Happening.Taken action) h p refl (λ n below. refl) (λ g is. over h right.2 p g is) g is
+  over (e ∷ h) right p g is = step e h p refl (λ n below. refl) (λ g is. over h right.2 p g is) g is
 
   module _ (exact : CmpEqualImpliesEq b.made.directory.cmp) where
     -- no two of them have one number
@@ -186,74 +180,36 @@ module _ {C S : Type 0} (b : Base C S) where
         let at_q = before (ends_by d q e) (touch_by d q e) (link b q h) k (sym (link_later d q e h (opens q)) ∙ of_q) in
         one p q at_p.0 at_q.0 at_p.1 at_q.1 (at_p.2 ∙ is ∙ sym at_q.2)
 
-    opened : (n : ℕ) (r : C) (t draw : Duration) (h : List (Happening C S)) → is_some (stream_at n h) ≡ true →
-        ((p : C) (g : Held) → link b p h ≡ Some g → IsOver h g.number) → AreNumbered h → AreNumbered (Happening.Proved n r t draw ∷ h)
-    opened n r t draw h there is_over one p q g k of_p of_q is =
-        go (same d r p) (same d r q) refl refl (sym (link_opens d p r n t draw h) ∙ of_p) (sym (link_opens d q r n t draw h) ∙ of_q)
+    -- a link began, with a number that none has
+    begun : (e : Happening C S) (n : ℕ) (r : C) (new : Held) (h : List (Happening C S)) → new.number ≡ n →
+        ((p : C) → link b p (e ∷ h) ≡ (if same d r p then Some new else link b p h)) → ((m : ℕ) → n ≡ m → IsOver h m → ⊥) →
+        ((p : C) (g : Held) → link b p h ≡ Some g → IsOver h g.number) → AreNumbered h → AreNumbered (e ∷ h)
+    begun e n r new h number tied unused is_over one p q g k of_p of_q is =
+        go (same d r p) (same d r q) refl refl (sym (tied p) ∙ of_p) (sym (tied q) ∙ of_q)
       where
-        new : Held
-        new = link_with n t
-
         number_is : (x : Held) → Some new ≡ Some x → n ≡ x.number
-        number_is x is = ap (λ (y : Held). y.number) (some_is is)
+        number_is x is = sym number ∙ ap (λ (y : Held). y.number) (some_is is)
 
         go : (x y : Bool) → same d r p ≡ x → same d r q ≡ y →
             (if x then Some new else link b p h) ≡ Some g → (if y then Some new else link b q h) ≡ Some k → same d p q ≡ true
         go true true is_p is_q at_p at_q = subst (λ x. same d x q ≡ true) (tells_apart exact r p is_p) is_q
-        go true false is_p is_q at_p at_q =
-            absurd (not_over h n k.number (number_is g at_p ∙ is) there (is_over q k at_q))
-        go false true is_p is_q at_p at_q =
-            absurd (not_over h n g.number (number_is k at_q ∙ sym is) there (is_over p g at_p))
+        go true false is_p is_q at_p at_q = absurd (unused k.number (number_is g at_p ∙ is) (is_over q k at_q))
+        go false true is_p is_q at_p at_q = absurd (unused g.number (number_is k at_q ∙ sym is) (is_over p g at_p))
         go false false is_p is_q at_p at_q = one p q g k at_p at_q is
 
-    dialled : (n : ℕ) (r : C) (t draw : Duration) (word : ℕ) (ingress : Ingress) (h : List (Happening C S)) → n ≡ next_at h →
-        ((p : C) (g : Held) → link b p h ≡ Some g → IsOver h g.number) → AreNumbered h →
-        AreNumbered (Happening.Dialed n r t draw word ingress ∷ h)
-    dialled n r t draw word ingress h next is_over one p q g k of_p of_q is =
-        go (same d r p) (same d r q) refl refl (sym (link_dials d p r n t draw word ingress h) ∙ of_p)
-        (sym (link_dials d q r n t draw word ingress h) ∙ of_q)
-      where
-        new : Held
-        new = dial_with n t
-
-        number_is : (x : Held) → Some new ≡ Some x → n ≡ x.number
-        number_is x is = ap (λ (y : Held). y.number) (some_is is)
-
-        not_next : (m : ℕ) → n ≡ m → IsOver h m → ⊥
-        not_next m is over = let less = over.1 in omega (arith, less, is, next)
-
-        go : (x y : Bool) → same d r p ≡ x → same d r q ≡ y →
-            (if x then Some new else link b p h) ≡ Some g → (if y then Some new else link b q h) ≡ Some k → same d p q ≡ true
-        go true true is_p is_q at_p at_q = subst (λ x. same d x q ≡ true) (tells_apart exact r p is_p) is_q
-        go true false is_p is_q at_p at_q = absurd (not_next k.number (number_is g at_p ∙ is) (is_over q k at_q))
-        go false true is_p is_q at_p at_q = absurd (not_next g.number (number_is k at_q ∙ sym is) (is_over p g at_p))
-        go false false is_p is_q at_p at_q = one p q g k at_p at_q is
+    -- .. the next one
+    not_next : (h : List (Happening C S)) (n m : ℕ) → n ≡ next_at h → n ≡ m → IsOver h m → ⊥
+    not_next h n m next is over = let less = over.1 in omega (arith, less, is, next)
 
     pub one_number : (h : List (Happening C S)) → AreRight b h → AreNumbered h
     one_number [] right = λ p q g k of_p of_q is. absurd (no_link g of_p)
-    one_number (Happening.Arrived n origin t space ∷ h) right = still (Happening.Arrived n origin t space) h (λ p. refl) (one_number h right.2)
-    one_number (Happening.Claimed n r origin t ∷ h) right = still (Happening.Claimed n r origin t) h (λ p. refl) (one_number h right.2)
-    one_number (Happening.Refused n r t why ∷ h) right = still (Happening.Refused n r t why) h (λ p. refl) (one_number h right.2)
-    one_number (Happening.Proved n r t draw ∷ h) right =
-        opened n r t draw h (claimed_is_there h n r right.0.0) (over h right.2) (one_number h right.2)
-    one_number (Happening.Unproved n r t why ∷ h) right = still (Happening.Unproved n r t why) h (λ p. refl) (one_number h right.2)
-    one_number (Happening.Left n t ∷ h) right = still (Happening.Left n t) h (λ p. refl) (one_number h right.2)
+    one_number (Happening.Proved n r t draw ∷ h) right = let there = claimed_is_there h n r right.0.0 in
+        begun (Happening.Proved n r t draw) n r (link_with n t) h refl (λ p. link_opens d p r n t draw h)
+        (λ m is over. not_over h n m is there over) (over h right.2) (one_number h right.2)
+    one_number (Happening.Adopted n r t outbound ∷ h) right = let there = claimed_is_there h n r right.0.0 in
+        begun (Happening.Adopted n r t outbound) n r (link_as (taken_way outbound) n t) h refl (λ p. link_adopts d p r n t outbound h)
+        (λ m is over. not_over h n m is there over) (over h right.2) (one_number h right.2)
     one_number (Happening.Dialed n r t draw word ingress ∷ h) right =
-        dialled n r t draw word ingress h right.0.number (over h right.2) (one_number h right.2)
-    one_number (Happening.Undialed t ∷ h) right = still (Happening.Undialed t) h (λ p. refl) (one_number h right.2)
-    one_number (Happening.Reached n r t ∷ h) right = still (Happening.Reached n r t) h (λ p. refl) (one_number h right.2)
-    one_number (Happening.Mistaken n r t ∷ h) right = still (Happening.Mistaken n r t) h (λ p. refl) (one_number h right.2)
-    one_number (Happening.Ended n r t direction ∷ h) right = still (Happening.Ended n r t direction) h (λ p. refl) (one_number h right.2)
-    one_number (Happening.SetCame t index primary secondary torn ∷ h) right = still (Happening.SetCame t index primary secondary torn) h (λ p. refl) (one_number h right.2)
-    one_number (Happening.StaleSetCame index primary secondary ∷ h) right = still (Happening.StaleSetCame index primary secondary) h (λ p. refl) (one_number h right.2)
-    one_number (Happening.StreamLate n t ∷ h) right = still (Happening.StreamLate n t) h (λ p. refl) (one_number h right.2)
-    one_number (Happening.LinkLate n r t ∷ h) right = still (Happening.LinkLate n r t) h (λ p. refl) (one_number h right.2)
-    one_number (Happening.Written n r t ∷ h) right = still (Happening.Written n r t) h (λ p. refl) (one_number h right.2)
-    one_number (Happening.Spoken n r t place ∷ h) right = still (Happening.Spoken n r t place) h (λ p. refl) (one_number h right.2)
-    one_number (Happening.Heard n r t owed cause outcome ∷ h) right = still (Happening.Heard n r t owed cause outcome) h (λ p. refl) (one_number h right.2)
-    one_number (Happening.Asked n r t owed fits question ∷ h) right = still (Happening.Asked n r t owed fits question) h (λ p. refl) (one_number h right.2)
-    one_number (Happening.Given infos t ∷ h) right = still (Happening.Given infos t) h (λ p. refl) (one_number h right.2)
-    one_number (Happening.Barred r t taken ∷ h) right = still (Happening.Barred r t taken) h (λ p. refl) (one_number h right.2)
-    one_number (Happening.Parted r t ∷ h) right = still (Happening.Parted r t) h (λ p. refl) (one_number h right.2)
-    one_number (Happening.Passed t ∷ h) right = still (Happening.Passed t) h (λ p. refl) (one_number h right.2)
-    one_number (Happening.Taken action ∷ h) right = still (Happening.Taken action) h (λ p. refl) (one_number h right.2)
+        begun (Happening.Dialed n r t draw word ingress) n r (dial_with n t) h refl (λ p. link_dials d p r n t draw word ingress h)
+        (λ m. not_next h n m right.0.number) (over h right.2) (one_number h right.2)
+    one_number (e ∷ h) right = still e h (λ p. refl) (one_number h right.2)

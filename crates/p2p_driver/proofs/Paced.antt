@@ -204,30 +204,12 @@ module _ {C S : Type 0} (b : Base C S) (n : ℕ) (place : Option ℕ) (rate : Ra
   hears m p t owed c Outcome.LacksChannel h right = stays (Happening.Heard m p t owed c Outcome.LacksChannel) h refl refl
 
   makes : (e : Happening C S) (h : List (Happening C S)) → IsRight b h e → MakesAfter e h
-  makes (Happening.Arrived m origin t space) h right = stays (Happening.Arrived m origin t space) h refl refl
-  makes (Happening.Claimed m q origin t) h right = stays (Happening.Claimed m q origin t) h refl refl
-  makes (Happening.Refused m q t why) h right = stays (Happening.Refused m q t why) h refl refl
   makes (Happening.Proved m q t draw) h right = begun m t (Happening.Proved m q t draw) h refl refl
-  makes (Happening.Unproved m q t why) h right = stays (Happening.Unproved m q t why) h refl refl
-  makes (Happening.Left m t) h right = stays (Happening.Left m t) h refl refl
+  makes (Happening.Adopted m q t outbound) h right = begun m t (Happening.Adopted m q t outbound) h refl refl
   makes (Happening.Dialed m q t draw word ingress) h right = begun m t (Happening.Dialed m q t draw word ingress) h refl refl
-  makes (Happening.Undialed t) h right = stays (Happening.Undialed t) h refl refl
-  makes (Happening.Reached m q t) h right = stays (Happening.Reached m q t) h refl refl
-  makes (Happening.Mistaken m q t) h right = stays (Happening.Mistaken m q t) h refl refl
-  makes (Happening.Ended m q t direction) h right = stays (Happening.Ended m q t direction) h refl refl
-  makes (Happening.SetCame t index primary secondary torn) h right = stays (Happening.SetCame t index primary secondary torn) h refl refl
-  makes (Happening.StaleSetCame index primary secondary) h right = stays (Happening.StaleSetCame index primary secondary) h refl refl
-  makes (Happening.StreamLate m t) h right = stays (Happening.StreamLate m t) h refl refl
-  makes (Happening.LinkLate m q t) h right = stays (Happening.LinkLate m q t) h refl refl
-  makes (Happening.Written m q t) h right = stays (Happening.Written m q t) h refl refl
   makes (Happening.Spoken m q t at) h right = speaks m q t at h right
   makes (Happening.Heard m q t owed cause outcome) h right = hears m q t owed cause outcome h right
-  makes (Happening.Asked m q t owed fits question) h right = stays (Happening.Asked m q t owed fits question) h refl refl
-  makes (Happening.Given infos t) h right = stays (Happening.Given infos t) h refl refl
-  makes (Happening.Barred q t taken) h right = stays (Happening.Barred q t taken) h refl refl
-  makes (Happening.Parted q t) h right = stays (Happening.Parted q t) h refl refl
-  makes (Happening.Passed t) h right = stays (Happening.Passed t) h refl refl
-  makes (Happening.Taken action) h right = stays (Happening.Taken action) h refl refl
+  makes e h right = stays e h refl refl
 
   -- none was read after the latest time
   none_later : (h : List (Happening C S)) → AreRight b h → AreBefore (latest_at h) (frames_read n place h)

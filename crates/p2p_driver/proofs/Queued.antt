@@ -18,10 +18,10 @@ use Rattle.p2p_driver.specs.declared.links.Held.{Held}
 use Rattle.p2p_driver.specs.declared.questions.Question.{Question}
 use Rattle.p2p_driver.specs.Happenings.{Happening, opened_by, ends_by, link_since, reached_by, says_on, said_as, said_with, writes_by}
 use Rattle.p2p_driver.specs.Laws.{since_of, since_began, said_in, first_of, first_on, said_since, written_since}
-use Rattle.p2p_driver.specs.Links.{link_with, dial_with, is_way, is_dialing, is_timed, proved_way, has_room}
+use Rattle.p2p_driver.specs.Links.{link_as, taken_way, dial_with, is_way, is_dialing, is_timed, proved_way, has_room}
 use Rattle.p2p_driver.specs.Drivers.{Base, AreRight, IsHeard, IsAsked, IsSpoken, IsDialOf, link, untaken}
 use Rattle.p2p_driver.proofs.Dials.{some_is, link_was, dialing_before, fresh}
-use Rattle.p2p_driver.proofs.LinkHistory.{touch_by, touched, unwritten_after, way_after, since_after, link_later, link_opens, link_dials}
+use Rattle.p2p_driver.proofs.LinkHistory.{touch_by, touched, unwritten_after, way_after, since_after, link_later, link_opens, link_adopts, link_dials}
 use Rattle.p2p_driver.proofs.Standing.{one_more}
 
 drop_next : {A : Type 0} (k : ℕ) (xs : List A) → drop 1 (drop k xs) ≡ drop (suc k) xs
@@ -65,6 +65,11 @@ room_fits few queue room = grind (arith, nat_tests)
 none_fits : (few queue : ℕ) → few ≡ 0 → few + 1 ≤ max queue 1
 none_fits few queue none = grind (arith)
 
+-- the own greeting is the first on the link of a stream that took over a grant
+first_taken : (outbound : Bool) (t : Duration) → first_of (taken_way outbound) t ≡ t ∷ []
+first_taken true t = refl
+first_taken false t = refl
+
 -- one is written
 writes_more : (queue written : ℕ) (first said unwritten : List Duration) → 0 < length unwritten →
     Are queue written first said unwritten → Are queue (1 + written) first said (drop 1 unwritten)
@@ -93,7 +98,7 @@ module _ {C S : Type 0} (b : Base C S) where
   abbrev pub d : Settings C S
   d = b.made.directory
 
-  abbrev began : C → List (Happening C S) → Option ((ℕ × Bool × Duration) × List (Happening C S))
+  abbrev began : C → List (Happening C S) → Option ((ℕ × Direction × Duration) × List (Happening C S))
   began p h = last_with (opened_by d p) h
 
   -- of the link of p, if there is one
@@ -105,7 +110,7 @@ module _ {C S : Type 0} (b : Base C S) where
       since_began d p (e ∷ h) ≡ e ∷ since_began d p h
   since_is p e h held opened linked = ap (λ o. since_of (found_with o e (began p h))) opened ∙ go (began p h) linked
     where
-      go : (found : Option ((ℕ × Bool × Duration) × List (Happening C S))) → link_since d p found ≡ Some held →
+      go : (found : Option ((ℕ × Direction × Duration) × List (Happening C S))) → link_since d p found ≡ Some held →
           since_of (found_with None e found) ≡ e ∷ since_of found
       go None linked = absurd cc
       go (Some found) linked = refl
@@ -197,23 +202,25 @@ module _ {C S : Type 0} (b : Base C S) where
             (at_peer (λ held. (held.number ≡ n) × (untaken b h n < length held.unwritten)) p q h is right held linked)) are
         go false is = step (Happening.Written n q t) h p false None refl is refl refl tt are
 
-    -- a link began
-    proved : (n : ℕ) (q : C) (t draw : Duration) (h : List (Happening C S)) (p : C) → AreOf p h → AreOf p (Happening.Proved n q t draw ∷ h)
-    proved n q t draw h p are = go (same d q p) refl
+    -- a link began, on which the own greeting is said
+    begun : (e : Happening C S) (n : ℕ) (q : C) (way : Direction) (t : Duration) (h : List (Happening C S)) (p : C) → first_of way t ≡ t ∷ [] →
+        opened_by d p e ≡ (if same d q p then Some (n, way, t) else None) → writes_by d p e ≡ false → says_on d p e ≡ None → reached_by d p e ≡ None →
+        link b p (e ∷ h) ≡ (if same d q p then Some (link_as way n t) else link b p h) → AreOf p h → AreOf p (e ∷ h)
+    begun e n q way t h p first opens writes says reaches tied are = go (same d q p) refl
       where
-        e : Happening C S
-        e = Happening.Proved n q t draw
-
         new : Are b.pace.queue 0 (t ∷ []) [] (t ∷ [])
         new = record { are = refl; within = omega arith; bound = grind (arith) }
 
         go : (x : Bool) → same d q p ≡ x → AreOf p (e ∷ h)
         go true is held linked =
-            let now : link_with n t ≡ held = some_is (sym (link_opens d p q n t draw h ∙ ap (λ y. if y then Some (link_with n t) else link b p h) is) ∙ linked) in
-            let over : since_began d p (e ∷ h) ≡ [] = ap (λ y. since_of (found_with (if y then Some (n, false, t) else None) e (began p h))) is in
+            let now : link_as way n t ≡ held = some_is (sym (tied ∙ ap (λ y. if y then Some (link_as way n t) else link b p h) is) ∙ linked) in
+            let over : since_began d p (e ∷ h) ≡ [] = ap (λ o. since_of (found_with o e (began p h)))
+            (opens ∙ ap (λ y. if◌then◌else◌ {A = Option (ℕ × Direction × Duration)} y (Some (n, way, t)) None) is) in
             subst (λ (x : Held). Are b.pace.queue (written_since d p (e ∷ h)) (first_on x) (said_since d p (e ∷ h)) x.unwritten) now
-            (subst (λ es. Are b.pace.queue (count_by (writes_by d p) es) (t ∷ []) (said_in d p es) (t ∷ [])) (sym over) new)
-        go false is held linked = step e h p false None (ap (λ y. if y then Some (n, false, t) else None) is) refl refl refl tt are held linked
+            (subst (λ es. Are b.pace.queue (count_by (writes_by d p) es) (first_of way t) (said_in d p es) (t ∷ [])) (sym over)
+            (subst (λ xs. Are b.pace.queue 0 xs [] (t ∷ [])) (sym first) new))
+        go false is held linked = step e h p false None
+            (opens ∙ ap (λ y. if◌then◌else◌ {A = Option (ℕ × Direction × Duration)} y (Some (n, way, t)) None) is) writes says reaches tt are held linked
 
     -- .. a dial did
     dialed : (n : ℕ) (q : C) (t draw : Duration) (word : ℕ) (ingress : Ingress) (h : List (Happening C S)) (p : C) → AreOf p h →
@@ -230,10 +237,10 @@ module _ {C S : Type 0} (b : Base C S) where
         go true is held linked =
             let now : dial_with n t ≡ held = some_is (sym (link_dials d p q n t draw word ingress h
             ∙ ap (λ y. if y then Some (dial_with n t) else link b p h) is) ∙ linked) in
-            let over : since_began d p (e ∷ h) ≡ [] = ap (λ y. since_of (found_with (if y then Some (n, true, t) else None) e (began p h))) is in
+            let over : since_began d p (e ∷ h) ≡ [] = ap (λ y. since_of (found_with (if y then Some (n, way.Dialing, t) else None) e (began p h))) is in
             subst (λ (x : Held). Are b.pace.queue (written_since d p (e ∷ h)) (first_on x) (said_since d p (e ∷ h)) x.unwritten) now
             (subst (λ es. Are b.pace.queue (count_by (writes_by d p) es) [] (said_in d p es) []) (sym over) new)
-        go false is held linked = step e h p false None (ap (λ y. if y then Some (n, true, t) else None) is) refl refl refl tt are held linked
+        go false is held linked = step e h p false None (ap (λ y. if y then Some (n, way.Dialing, t) else None) is) refl refl refl tt are held linked
 
     -- the stream of a dial was proved: the own greeting is said, the first of all
     reached : (n : ℕ) (q : C) (t : Duration) (h : List (Happening C S)) (p : C) → AreRight b h → IsDialOf b h n q → AreOf p h →
@@ -251,6 +258,7 @@ module _ {C S : Type 0} (b : Base C S) where
         first_stays way.Inbound since is = absurd cc
         first_stays way.Dialing since is = refl
         first_stays way.Outbound since is = refl
+        first_stays way.TakenOver since is = absurd cc
 
         go : (x : Bool) → same d q p ≡ x → AreOf p (e ∷ h)
         go true is = steps e h p false (Some t) refl refl (ap (λ y. if y then Some t else None) is)
@@ -262,21 +270,12 @@ module _ {C S : Type 0} (b : Base C S) where
 
     pub are_unwritten : (h : List (Happening C S)) → AreRight b h → (p : C) → AreOf p h
     are_unwritten [] right p = λ held is. absurd cc
-    are_unwritten (Happening.Arrived n origin t space ∷ h) right p = step (Happening.Arrived n origin t space) h p false None refl refl refl refl tt (are_unwritten h right.2 p)
-    are_unwritten (Happening.Claimed n r origin t ∷ h) right p = step (Happening.Claimed n r origin t) h p false None refl refl refl refl tt (are_unwritten h right.2 p)
-    are_unwritten (Happening.Refused n r t why ∷ h) right p = step (Happening.Refused n r t why) h p false None refl refl refl refl tt (are_unwritten h right.2 p)
-    are_unwritten (Happening.Proved n r t draw ∷ h) right p = proved n r t draw h p (are_unwritten h right.2 p)
-    are_unwritten (Happening.Unproved n r t why ∷ h) right p = step (Happening.Unproved n r t why) h p false None refl refl refl refl tt (are_unwritten h right.2 p)
-    are_unwritten (Happening.Left n t ∷ h) right p = step (Happening.Left n t) h p false None refl refl refl refl tt (are_unwritten h right.2 p)
+    are_unwritten (Happening.Proved n r t draw ∷ h) right p = begun (Happening.Proved n r t draw) n r way.Inbound t h p refl refl refl refl refl
+        (link_opens d p r n t draw h) (are_unwritten h right.2 p)
+    are_unwritten (Happening.Adopted n r t outbound ∷ h) right p = begun (Happening.Adopted n r t outbound) n r (taken_way outbound) t h p
+        (first_taken outbound t) refl refl refl refl (link_adopts d p r n t outbound h) (are_unwritten h right.2 p)
     are_unwritten (Happening.Dialed n r t draw word ingress ∷ h) right p = dialed n r t draw word ingress h p (are_unwritten h right.2 p)
-    are_unwritten (Happening.Undialed t ∷ h) right p = step (Happening.Undialed t) h p false None refl refl refl refl tt (are_unwritten h right.2 p)
     are_unwritten (Happening.Reached n r t ∷ h) right p = reached n r t h p right.2 right.0 (are_unwritten h right.2 p)
-    are_unwritten (Happening.Mistaken n r t ∷ h) right p = step (Happening.Mistaken n r t) h p false None refl refl refl refl tt (are_unwritten h right.2 p)
-    are_unwritten (Happening.Ended n r t direction ∷ h) right p = step (Happening.Ended n r t direction) h p false None refl refl refl refl tt (are_unwritten h right.2 p)
-    are_unwritten (Happening.SetCame t index primary secondary torn ∷ h) right p = step (Happening.SetCame t index primary secondary torn) h p false None refl refl refl refl tt (are_unwritten h right.2 p)
-    are_unwritten (Happening.StaleSetCame index primary secondary ∷ h) right p = step (Happening.StaleSetCame index primary secondary) h p false None refl refl refl refl tt (are_unwritten h right.2 p)
-    are_unwritten (Happening.StreamLate n t ∷ h) right p = step (Happening.StreamLate n t) h p false None refl refl refl refl tt (are_unwritten h right.2 p)
-    are_unwritten (Happening.LinkLate n r t ∷ h) right p = step (Happening.LinkLate n r t) h p false None refl refl refl refl tt (are_unwritten h right.2 p)
     are_unwritten (Happening.Heard n r t owed cause outcome ∷ h) right p =
         speaks (Happening.Heard n r t owed cause outcome) h p r (said_as t outcome) refl refl refl refl (heard (link b r h) right.0) (are_unwritten h right.2 p)
       where
@@ -303,11 +302,7 @@ module _ {C S : Type 0} (b : Base C S) where
         spoken : (o : Option Held) → IsSomeAnd o (IsSpoken b h n t place) → IsSomeAnd o (λ held. has_room b.pace.queue held ≡ true)
         spoken None is = absurd is
         spoken (Some held) is = is.room
-    are_unwritten (Happening.Given infos t ∷ h) right p = step (Happening.Given infos t) h p false None refl refl refl refl tt (are_unwritten h right.2 p)
-    are_unwritten (Happening.Barred r t taken ∷ h) right p = step (Happening.Barred r t taken) h p false None refl refl refl refl tt (are_unwritten h right.2 p)
-    are_unwritten (Happening.Parted r t ∷ h) right p = step (Happening.Parted r t) h p false None refl refl refl refl tt (are_unwritten h right.2 p)
-    are_unwritten (Happening.Passed t ∷ h) right p = step (Happening.Passed t) h p false None refl refl refl refl tt (are_unwritten h right.2 p)
-    are_unwritten (Happening.Taken action ∷ h) right p = step (Happening.Taken action) h p false None refl refl refl refl tt (are_unwritten h right.2 p)
+    are_unwritten (e ∷ h) right p = step e h p false None refl refl refl refl tt (are_unwritten h right.2 p)
 
     -- before the stream of a dial is proved nothing is said on it
     pub none_said : (h : List (Happening C S)) → AreRight b h → (p : C) (held : Held) → link b p h ≡ Some held → is_dialing held ≡ true →
@@ -315,7 +310,7 @@ module _ {C S : Type 0} (b : Base C S) where
     none_said [] right p held linked dial = absurd cc
     none_said (e ∷ h) right p held linked dial = go (opened_by d p e) refl (none_said h right.2 p)
       where
-        go : (o : Option (ℕ × Bool × Duration)) → opened_by d p e ≡ o →
+        go : (o : Option (ℕ × Direction × Duration)) → opened_by d p e ≡ o →
             ((g : Held) → link b p h ≡ Some g → is_dialing g ≡ true → said_since d p h ≡ []) → said_since d p (e ∷ h) ≡ []
         go (Some first) opened before = ap (λ o. said_in d p (since_of (found_with o e (began p h)))) opened
         go None opened before =

@@ -98,6 +98,7 @@ module _ (given : Pace) (two : 2 ≤ non_zero_u32_get given.burst) where
       by_address = 4;
       links = 4;
       inbound = 4;
+      outbound = 4;
       owed = 4;
       queue = 4;
       tick = seconds 30;

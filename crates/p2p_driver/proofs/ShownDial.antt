@@ -1,7 +1,7 @@
 -- A history with dials that is right: memory is refused for one, and a tick later two peers are dialled. The stream of one
 -- is proved to be another's, and its link ends. That of the other is proved, its peer greets as one that was dialled, and
 -- its link ends, too. So the premises of the laws are met by dials. Keys and signatures are of one byte.
-use Rattle.std.proofs.Common.{◌≡◌, ℕ, Bool, true, false, ◌&&◌, ◌||◌, List, [], ◌∷◌, Option, None, refl, sym, ◌∙◌, ap, subst}
+use Rattle.std.proofs.Common.{◌≡◌, ℕ, Bool, true, false, ◌&&◌, ◌||◌, List, [], ◌∷◌, Option, Some, None, refl, sym, ◌∙◌, ap, subst}
 use Rattle.std.proofs.Common.{arith}
 use Rattle.std.specs.Prelude.{if◌then◌else◌, length}
 use Rattle.std.specs.BTreeMap.{is_at}
@@ -28,7 +28,7 @@ use Rattle.p2p_tracker.specs.History.{life, is_entitled}
 use Rattle.p2p_tracker.specs.PeerSets.{set_of}
 use Rattle.p2p_directory.specs.Run.{world_after}
 use Rattle.p2p_directory.proofs.Definitions.GossipExamples.{wire, signed, own_of_9, asker}
-use Rattle.p2p_driver.specs.Drivers.{Base, AreRight}
+use Rattle.p2p_driver.specs.Drivers.{Base, AreRight, kept}
 use Rattle.p2p_driver.specs.Frames.{Cause, Outcome}
 use Rattle.p2p_driver.specs.Happenings.{Happening, link_count, outbound_count}
 use Rattle.p2p_driver.specs.Laws.{has_greeted}
@@ -153,7 +153,7 @@ module _ (given : Pace) where
   reached = Happening.Reached 2 2 (seconds 43) ∷ mistaken
 
   abbrev first_ended : List (Happening ℕ ℕ)
-  first_ended = Happening.Ended 1 1 (seconds 44) way.Dialing ∷ reached
+  first_ended = Happening.Failed 1 1 (seconds 44) way.Dialing ∷ reached
 
   abbrev taken_first : List (Happening ℕ ℕ)
   taken_first = Happening.Taken (action.Dial (record { 0 = 1 }) 1 (signed 1 100000).ingress) ∷ first_ended
@@ -233,7 +233,8 @@ module _ (given : Pace) where
   reached_right = ((refl, refl, refl), omega arith, ((refl, refl, refl), omega arith, dialed_too_right))
 
   first_ended_right : AreRight b first_ended
-  first_ended_right = ((refl, refl), omega arith, reached_right)
+  unfolding life is_valid
+  first_ended_right = (((refl, refl), refl), omega arith, reached_right)
 
   taken_first_right : AreRight b taken_first
   taken_first_right = (
@@ -296,8 +297,9 @@ module _ (given : Pace) where
 
   -- all of it is right
   pub right : AreRight b ended
-  right = ((refl, refl), omega arith, (([], refl), tt, greeted_right))
+  right = (((refl, refl), refl), omega arith, (([], refl), tt, greeted_right))
 
-  -- the peer has greeted, and its link was outbound
-  pub shown : (has_greeted d 2 told ≡ true) × (outbound_count told ≡ 1) × (link_count ended ≡ 0)
-  shown = (refl, refl, refl)
+  -- the peer has greeted, and its link was outbound; the grant of the other is kept
+  pub shown : (has_greeted d 2 told ≡ true) × (outbound_count told ≡ 1) × (link_count ended ≡ 0) × (kept b 1 ended ≡ Some (seconds 40))
+      × (kept b 2 ended ≡ None)
+  shown = (refl, refl, refl, refl, refl)

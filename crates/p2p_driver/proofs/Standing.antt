@@ -1,10 +1,11 @@
 -- How a driver stands after one more happening.
-use Rattle.std.proofs.Common.{◌≡◌, ℕ, ◌==◌, ◌+◌, ◌≤◌, Bool, true, false, not, cond, List, [], ◌∷◌, ◌++◌, Option, Some, None, filter, refl, sym, ◌∙◌, ap, subst}
+use Rattle.std.proofs.Common.{◌≡◌, ℕ, ◌==◌, ◌+◌, ◌≤◌, Bool, true, false, not, ◌&&◌, cond, List, [], ◌∷◌, ◌++◌, Option, Some, None, filter, refl, sym, ◌∙◌, ap, subst}
 use Rattle.std.proofs.Common.{arith, ◌⊎◌, inl, inr}
 use Rattle.std.specs.Prelude.{if◌then◌else◌, length, option_map, max}
 use Rattle.std.specs.Duration.{as_nanos}
 use Rattle.std.specs.List.{count_by}
 use Rattle.std.specs.BTreeMap.{is_at}
+use Rattle.std.specs.declared.cmp.Ordering.{Ordering}
 use Rattle.std.specs.declared.time.Duration.{Duration}
 use Rattle.std.proofs.lemmas.List.Sums.{sum_by-cons}
 use Rattle.p2p_discovery.specs.declared.discovery.Info.{Info}
@@ -19,19 +20,21 @@ use Rattle.std.proofs.lemmas.Bool.Decides.{nat_tests}
 use Rattle.p2p_driver.specs.Steps.{IsQuietIn, is_before}
 use Rattle.p2p_driver.specs.declared.next_dial.NextDial.{NextDial}
 use Rattle.p2p_driver.specs.declared.links.Direction.{Direction}
-use Rattle.p2p_driver.specs.declared.links.Direction.TheVariants.{Inbound, Dialing, Outbound}
+use Rattle.p2p_driver.specs.declared.links.Direction.TheVariants.{Inbound, Dialing, Outbound, TakenOver}
 use Rattle.p2p_directory.specs.Nodes.{NodeView, NodeStandsAt}
 use Rattle.p2p_driver.specs.Answers.{AnswersView, AreKept}
 use Rattle.p2p_driver.specs.Arrivals.{has_number, arrival_of, arrived, claimed, room_of}
 use Rattle.p2p_driver.specs.Frames.{Cause, Outcome}
+use Rattle.p2p_driver.specs.Grants.{grant_of}
+use Rattle.p2p_driver.specs.Happenings.{is_taken_over, granted_by, spends_by, grant_at, is_greeted}
 use Rattle.p2p_driver.specs.Happenings.{Happening, time_by, latest_at, latest_of, calls_of, calls_by, came_by, leaves_by, claim_by, is_new, answered_in, answered_by, is_proved, is_ended, link_at, opened_by, ends_by, said, says_by, taken, taken_by, crowded_out, sent, shut, shut_all, parted, calls_for, heard_as, answered_on, asking_on, said_with, why_late, is_dialed, is_reached, undialed_by, retry_of, retry_at, dialing}
-use Rattle.p2p_driver.specs.Links.{link_of, count_of, is_way, link_with, dial_with, reached, asking, saying, writing, closed}
+use Rattle.p2p_driver.specs.Links.{link_of, count_of, is_way, link_with, link_as, taken_way, dial_with, reached, asking, saying, writing, closed}
 use Rattle.p2p_driver.specs.Meters.{MetersView}
 use Rattle.p2p_driver.specs.Questions.{asked_after}
 use Rattle.p2p_driver.specs.Reading.{begins_as, ends_as, read_by, AreMetered}
 use Rattle.p2p_driver.specs.Reads.{reads_of, unread}
 use Rattle.p2p_driver.specs.declared.questions.Question.{Question}
-use Rattle.p2p_driver.specs.Drivers.{DriverView, Base, DriverStandsAt, AreCounted, IsRight, IsInTime, AreStreams, IsLinkOf}
+use Rattle.p2p_driver.specs.Drivers.{DriverView, Base, DriverStandsAt, AreCounted, IsRight, IsInTime, AreStreams}
 use Rattle.p2p_driver.specs.declared.actions.Action.{Action}
 use Rattle.p2p_driver.specs.declared.actions.Why.TheVariants as why
 use Rattle.p2p_driver.specs.declared.arrivals.Room.{Room}
@@ -43,7 +46,8 @@ use Rattle.p2p_driver.specs.declared.pace.Pace.{Pace}
 use Rattle.p2p_driver.proofs.Answered.{kept_at_later}
 use Rattle.p2p_driver.proofs.Metered.{metered_later, metered_stays, metered_begins, metered_ends}
 use Rattle.p2p_driver.proofs.StreamHistory.{streams_stay, streams_leave, streams_claim, streams_come, streams_pass, next_stays, next_rises}
-use Rattle.p2p_driver.proofs.LinkHistory.{touch_by, untouched, closing_if, link_after, link_stays, link_later, link_opens, link_dials, link_reaches, link_hears, link_asks, link_writes, link_speaks, ended_link, closed_link, said_more, took_one}
+use Rattle.p2p_driver.proofs.GrantHistory.{grant_later, grant_stays, grant_begins}
+use Rattle.p2p_driver.proofs.LinkHistory.{touch_by, untouched, closing_if, link_after, link_stays, link_later, link_opens, link_adopts, link_dials, link_reaches, link_hears, link_asks, link_writes, link_speaks, ended_link, closed_link, said_more, took_one}
 
 module _ {C S : Type 0} where
   -- how many are of a kind, with one more
@@ -62,12 +66,44 @@ dialing_counts : (b : Bool) (links links2 ended ended2 all all2 left left2 : ℕ
 dialing_counts true links links2 ended ended2 all all2 left left2 less more same kept before = omega (arith, less, more, same, kept, before)
 dialing_counts false links links2 ended ended2 all all2 left left2 less more same kept before = omega (arith, less, more, same, kept, before)
 
+-- how the link of a stream that took over a grant came about
+inbound_taken : (outbound : Bool) → not outbound ≡ is_way Inbound (taken_way outbound)
+inbound_taken true = refl
+inbound_taken false = refl
+
+dialing_taken : (outbound : Bool) → false ≡ is_way Dialing (taken_way outbound)
+dialing_taken true = refl
+dialing_taken false = refl
+
+over_taken : (outbound : Bool) → outbound ≡ is_way TakenOver (taken_way outbound)
+over_taken true = refl
+over_taken false = refl
+
+outbound_taken : (outbound : Bool) → is_way Outbound (taken_way outbound) ≡ false
+outbound_taken true = refl
+outbound_taken false = refl
+
+-- one more that began
+begun_counts : (b : Bool) (links links2 ended ended2 all all2 : ℕ) → links2 ≡ links + (if b then 1 else 0) → ended2 ≡ 0 + ended →
+    all2 ≡ cond b 1 0 + all → links + ended ≡ all → links2 + ended2 ≡ all2
+begun_counts true links links2 ended ended2 all all2 more same one before = omega (arith, more, same, one, before)
+begun_counts false links links2 ended ended2 all all2 more same one before = omega (arith, more, same, one, before)
+
+begun_dials : (b : Bool) (links links2 ended ended2 all all2 left left2 : ℕ) → links2 ≡ links + (if b then 1 else 0) → ended2 ≡ 0 + ended →
+    all2 ≡ cond b 1 0 + all → left2 ≡ 0 + left → links + (left + ended) ≡ all → links2 + (left2 + ended2) ≡ all2
+begun_dials true links links2 ended ended2 all all2 left left2 more same one kept before = omega (arith, more, same, one, kept, before)
+begun_dials false links links2 ended ended2 all all2 left left2 more same one kept before = omega (arith, more, same, one, kept, before)
+
 -- it is looked for somebody to dial at once
-abbrev pub at_once : NextDial → NextDial
+abbrev pub at_once : {C : Type 0} → NextDial C → NextDial C
 at_once dial = record dial { from = Some (record { secs = 0; nanos = 0 }) }
 
-abbrev pub IsAtOnce : NextDial → NextDial → Type 0
+abbrev pub IsAtOnce : {C : Type 0} → NextDial C → NextDial C → Type 0
 IsAtOnce old new = (option_map as_nanos new.from ≡ Some 0) × (new.retry ≡ old.retry)
+
+-- .. and the grants of dials are as before
+abbrev pub IsSoon : {C : Type 0} → NextDial C → NextDial C → Type 0
+IsSoon old new = IsAtOnce old new × (new.grants ≡ old.grants)
 
 -- nothing comes before the first moment
 pub quiet_zero : {C S : Type 0} (s : Settings C S) (w : World C S) (t : ℕ) (from : Option ℕ) → from ≡ Some 0 → IsQuietIn s w t from
@@ -77,8 +113,13 @@ quiet_zero s w t from zero u later before p = absurd (never u (sym (ap (is_befor
     never u is = grind (arith, nat_tests)
 
 -- .. or as before, since its node was called for nothing
-abbrev pub IsSought : {C S : Type 0} → List (Call C S) → NextDial → NextDial → Type 0
-IsSought calls old new = ((calls ≡ []) × (new ≡ old)) ⊎ IsAtOnce old new
+abbrev pub IsSought : {C S : Type 0} → List (Call C S) → NextDial C → NextDial C → Type 0
+IsSought calls old new = ((calls ≡ []) × (new.from ≡ old.from) × (new.retry ≡ old.retry)) ⊎ IsAtOnce old new
+
+-- .. since a peer was heard, whose grant is none of a dial any more once it has greeted
+abbrev pub IsSoughtFor : {C S : Type 0} → (C → C → Ordering) → C → Duration → Outcome C S → NextDial C → NextDial C → Type 0
+IsSoughtFor cmp p t outcome old new = IsSought (calls_for p t outcome) old new
+    × ((q : _) → grant_of cmp new.grants q ≡ (if is_greeted outcome && is_at (cmp p) q then None else grant_of cmp old.grants q))
 
 module _ {C S : Type 0} (b : Base C S) (h : List (Happening C S)) (v : DriverView C S)
     (at : DriverStandsAt b h v) where
@@ -109,9 +150,9 @@ module _ {C S : Type 0} (b : Base C S) (h : List (Happening C S)) (v : DriverVie
 
   -- .. and as many of each kind
   counts_stay : (e : Happening C S) (links : List (C × Held)) → ((way : Direction) → is_ended way e ≡ false) →
-      is_proved e ≡ false → is_dialed e ≡ false → is_reached e ≡ false →
+      is_proved e ≡ false → is_dialed e ≡ false → is_reached e ≡ false → is_taken_over e ≡ false →
       ((way : Direction) → count_of way links ≡ count_of way v.links) → AreCounted (e ∷ h) links
-  counts_stay e links ended proved dialed reached same = record {
+  counts_stay e links ended proved dialed reached taken same = record {
     inbound = let more = one_more (is_ended Inbound) e h false (ended Inbound) in let all = one_more is_proved e h false proved in
         let before = at.counts.inbound in let alike = same Inbound in omega (arith, more, all, before, alike);
     dialing = let more = one_more (is_ended Dialing) e h false (ended Dialing) in let all = one_more is_dialed e h false dialed in
@@ -119,11 +160,53 @@ module _ {C S : Type 0} (b : Base C S) (h : List (Happening C S)) (v : DriverVie
         let before = at.counts.dialing in let alike = same Dialing in omega (arith, more, all, left, before, alike);
     outbound = let more = one_more (is_ended Outbound) e h false (ended Outbound) in let all = one_more is_reached e h false reached in
         let before = at.counts.outbound in let alike = same Outbound in omega (arith, more, all, before, alike);
+    taken_over = let more = one_more (is_ended TakenOver) e h false (ended TakenOver) in let all = one_more is_taken_over e h false taken in
+        let before = at.counts.taken_over in let alike = same TakenOver in omega (arith, more, all, before, alike);
   }
 
   count_stays : (e : Happening C S) → ((way : Direction) → is_ended way e ≡ false) →
-      is_proved e ≡ false → is_dialed e ≡ false → is_reached e ≡ false → AreCounted (e ∷ h) v.links
-  count_stays e ended proved dialed reached = counts_stay e v.links ended proved dialed reached (λ way. refl)
+      is_proved e ≡ false → is_dialed e ≡ false → is_reached e ≡ false → is_taken_over e ≡ false → AreCounted (e ∷ h) v.links
+  count_stays e ended proved dialed reached taken = counts_stay e v.links ended proved dialed reached taken (λ way. refl)
+
+  -- one more came about so
+  counts_begin : (e : Happening C S) (direction : Direction) (links : List (C × Held)) → ((way : Direction) → is_ended way e ≡ false) →
+      is_proved e ≡ is_way Inbound direction → is_dialed e ≡ is_way Dialing direction → is_taken_over e ≡ is_way TakenOver direction →
+      is_reached e ≡ false → is_way Outbound direction ≡ false →
+      ((way : Direction) → count_of way links ≡ count_of way v.links + (if is_way way direction then 1 else 0)) → AreCounted (e ∷ h) links
+  counts_begin e direction links ended proved dialed taken reached isnt more = record {
+    inbound = begun_counts (is_way Inbound direction) (count_of Inbound v.links) _ _ _ _ _ (more Inbound)
+        (one_more (is_ended Inbound) e h false (ended Inbound)) (one_more is_proved e h _ proved) at.counts.inbound;
+    dialing = begun_dials (is_way Dialing direction) (count_of Dialing v.links) _ _ _ _ _ _ _ (more Dialing)
+        (one_more (is_ended Dialing) e h false (ended Dialing)) (one_more is_dialed e h _ dialed) (one_more is_reached e h false reached) at.counts.dialing;
+    outbound = begun_counts (is_way Outbound direction) (count_of Outbound v.links) _ _ _ _ _ (more Outbound)
+        (one_more (is_ended Outbound) e h false (ended Outbound)) (one_more is_reached e h (is_way Outbound direction) (reached ∙ sym isnt)) at.counts.outbound;
+    taken_over = begun_counts (is_way TakenOver direction) (count_of TakenOver v.links) _ _ _ _ _ (more TakenOver)
+        (one_more (is_ended TakenOver) e h false (ended TakenOver)) (one_more is_taken_over e h _ taken) at.counts.taken_over;
+  }
+
+  -- .. or ended
+  counts_end : (e : Happening C S) (direction : Direction) (links : List (C × Held)) → ((way : Direction) → is_ended way e ≡ is_way way direction) →
+      is_proved e ≡ false → is_dialed e ≡ false → is_taken_over e ≡ false → is_reached e ≡ false →
+      ((way : Direction) → count_of way links + (if is_way way direction then 1 else 0) ≡ count_of way v.links) → AreCounted (e ∷ h) links
+  counts_end e direction links ended proved dialed taken reached less = record {
+    inbound = ended_counts (is_way Inbound direction) (count_of Inbound links) _ _ _ _ _ (less Inbound)
+        (one_more (is_ended Inbound) e h _ (ended Inbound)) (one_more is_proved e h false proved) at.counts.inbound;
+    dialing = dialing_counts (is_way Dialing direction) (count_of Dialing links) _ _ _ _ _ _ _ (less Dialing)
+        (one_more (is_ended Dialing) e h _ (ended Dialing)) (one_more is_dialed e h false dialed) (one_more is_reached e h false reached) at.counts.dialing;
+    outbound = ended_counts (is_way Outbound direction) (count_of Outbound links) _ _ _ _ _ (less Outbound)
+        (one_more (is_ended Outbound) e h _ (ended Outbound)) (one_more is_reached e h false reached) at.counts.outbound;
+    taken_over = ended_counts (is_way TakenOver direction) (count_of TakenOver links) _ _ _ _ _ (less TakenOver)
+        (one_more (is_ended TakenOver) e h _ (ended TakenOver)) (one_more is_taken_over e h false taken) at.counts.taken_over;
+  }
+
+  -- the grants of dials are as before
+  grants_as : (e : Happening C S) (dial : NextDial C) → dial.grants ≡ v.next_dial.grants → ((p : C) → granted_by d p e ≡ None) →
+      ((p : C) → spends_by d p e ≡ false) → (p : C) → grant_of d.cmp dial.grants p ≡ grant_at d p (e ∷ h)
+  grants_as e dial same grants spends p = ap (λ gs. grant_of d.cmp gs p) same ∙ at.grants p ∙ sym (grant_stays d p e h (grants p) (spends p))
+
+  grants_stay : (e : Happening C S) → ((p : C) → granted_by d p e ≡ None) →
+      ((p : C) → spends_by d p e ≡ false) → (p : C) → grant_of d.cmp v.next_dial.grants p ≡ grant_at d p (e ∷ h)
+  grants_stay e grants spends = grants_as e v.next_dial refl grants spends
 
   -- nobody may be dialled before it is looked for somebody, later
   pub quiet_later : (t : ℕ) → v.latest ≤ t → IsQuietIn d (world_after d (calls_of h)) t (option_map as_nanos v.next_dial.from)
@@ -133,19 +216,19 @@ module _ {C S : Type 0} (b : Base C S) (h : List (Happening C S)) (v : DriverVie
       no_earlier low up = omega (arith, low, up)
 
   -- .. it is looked at once
-  quiet_at_once : (w : World C S) (t : ℕ) (dial : NextDial) → IsAtOnce v.next_dial dial →
+  quiet_at_once : (w : World C S) (t : ℕ) (dial : NextDial C) → IsAtOnce v.next_dial dial →
       IsQuietIn d w t (option_map as_nanos dial.from)
   quiet_at_once w t dial once = quiet_zero d w t (option_map as_nanos dial.from) once.0
 
   -- .. or as before
-  quiet_by : (calls : List (Call C S)) (t : ℕ) (dial : NextDial) → v.latest ≤ t → IsSought calls v.next_dial dial →
+  quiet_by : (calls : List (Call C S)) (t : ℕ) (dial : NextDial C) → v.latest ≤ t → IsSought calls v.next_dial dial →
       IsQuietIn d (world_after d (calls ++ calls_of h)) t (option_map as_nanos dial.from)
   quiet_by calls t dial after (inl is) = subst (λ cs. IsQuietIn d (world_after d (cs ++ calls_of h)) t (option_map as_nanos dial.from)) (sym is.0)
-      (subst (λ (x : NextDial). IsQuietIn d (world_after d (calls_of h)) t (option_map as_nanos x.from)) (sym is.1) (quiet_later t after))
+      (subst (λ o. IsQuietIn d (world_after d (calls_of h)) t (option_map as_nanos o)) (sym is.1) (quiet_later t after))
   quiet_by calls t dial after (inr once) = quiet_at_once (world_after d (calls ++ calls_of h)) t dial once
 
-  retried_by : (calls : List (Call C S)) (dial : NextDial) → IsSought calls v.next_dial dial → dial.retry ≡ v.next_dial.retry
-  retried_by calls dial (inl is) = ap (λ (x : NextDial). x.retry) is.1
+  retried_by : (calls : List (Call C S)) (dial : NextDial C) → IsSought calls v.next_dial dial → dial.retry ≡ v.next_dial.retry
+  retried_by calls dial (inl is) = is.2
   retried_by calls dial (inr once) = once.1
 
   -- it is tried again as before
@@ -158,7 +241,7 @@ module _ {C S : Type 0} (b : Base C S) (h : List (Happening C S)) (v : DriverVie
       go None = refl
       go (Some found) = refl
 
-  retry_at_once : (e : Happening C S) (dial : NextDial) → IsAtOnce v.next_dial dial → undialed_by e ≡ None →
+  retry_at_once : (e : Happening C S) (dial : NextDial C) → IsAtOnce v.next_dial dial → undialed_by e ≡ None →
       dial.retry ≡ retry_at (as_nanos b.pace.tick) (e ∷ h)
   retry_at_once e dial once none = once.1 ∙ retry_later e none
 
@@ -196,7 +279,8 @@ module _ {C S : Type 0} (b : Base C S) (h : List (Happening C S)) (v : DriverVie
     answers = answers_later (as_nanos t) after;
     reads = reads_later e (as_nanos t) after (λ j. refl) (λ j. refl) (λ j place. refl);
     links = links_stay e (λ p. refl) (λ p. refl) (λ p. refl);
-    counts = count_stays e (λ way. refl) refl refl refl;
+    grants = grants_stay e (λ p. refl) (λ p. refl);
+    counts = count_stays e (λ way. refl) refl refl refl refl;
     quiet = quiet_later (as_nanos t) after;
     retry = retry_later e refl;
     actions = says (crowded_out space) e refl refl;
@@ -236,7 +320,8 @@ module _ {C S : Type 0} (b : Base C S) (h : List (Happening C S)) (v : DriverVie
         answers = kept;
         reads = reads_later e (as_nanos t) after (λ j. refl) (λ j. refl) (λ j place. refl);
         links = links_stay e (λ p. refl) (λ p. refl) (λ p. refl);
-        counts = count_stays e (λ way. refl) refl refl refl;
+        grants = grants_stay e (λ p. refl) (λ p. refl);
+        counts = count_stays e (λ way. refl) refl refl refl refl;
         quiet = quiet_later (as_nanos t) after;
         retry = retry_later e refl;
         actions = says_nothing e refl refl;
@@ -249,7 +334,8 @@ module _ {C S : Type 0} (b : Base C S) (h : List (Happening C S)) (v : DriverVie
       ((j : ℕ) → claim_by j e ≡ None) → answered_by e ≡ [] → calls_by e ≡ [] →
       ((p : C) → opened_by d p e ≡ None) → ((p : C) → ends_by d p e ≡ false) →
       ((p : C) → touch_by d p e ≡ untouched) → ((way : Direction) → is_ended way e ≡ false) → is_proved e ≡ false →
-      is_dialed e ≡ false → is_reached e ≡ false → undialed_by e ≡ None → time_by e ≡ Some t → taken_by e ≡ [] →
+      is_dialed e ≡ false → is_reached e ≡ false → is_taken_over e ≡ false → ((p : C) → granted_by d p e ≡ None) →
+      ((p : C) → spends_by d p e ≡ false) → undialed_by e ≡ None → time_by e ≡ Some t → taken_by e ≡ [] →
       says_by d b.greeting h e ≡ told → ((j : ℕ) → begins_as j e ≡ None) → ((j : ℕ) → ends_as j e ≡ false) →
       ((j : ℕ) (place : Option ℕ) → read_by j place e ≡ []) → IsRight b h e → v.latest ≤ as_nanos t →
       AreKept b.pace (as_nanos t) (answered_in h) answers →
@@ -259,7 +345,7 @@ module _ {C S : Type 0} (b : Base C S) (h : List (Happening C S)) (v : DriverVie
         answers = answers;
         actions = v.actions ++ told;
       })
-  goes n t e told answers new came leaves claim answered calls opened ends touch ended proved dialed reached undialed time none is begins over unread right after kept = record {
+  goes n t e told answers new came leaves claim answered calls opened ends touch ended proved dialed reached taken granted spent undialed time none is begins over unread right after kept = record {
     node = subst (λ cs. NodeStandsAt b.made (cs ++ calls_of h) v.node) (sym calls) at.node;
     pace = at.pace;
     greeting = at.greeting;
@@ -274,7 +360,8 @@ module _ {C S : Type 0} (b : Base C S) (h : List (Happening C S)) (v : DriverVie
         (sym (ap (λ o. latest_of (found_with o e (last_with time_by h))) time))
         (reads_later e (as_nanos t) after begins over unread);
     links = links_stay e opened ends touch;
-    counts = count_stays e ended proved dialed reached;
+    grants = grants_stay e granted spent;
+    counts = count_stays e ended proved dialed reached taken;
     quiet = subst (λ cs. IsQuietIn d (world_after d (cs ++ calls_of h)) (latest_at (e ∷ h)) (option_map as_nanos v.next_dial.from)) (sym calls)
         (subst (λ t. IsQuietIn d (world_after d (calls_of h)) t (option_map as_nanos v.next_dial.from))
         (sym (ap (λ o. latest_of (found_with o e (last_with time_by h))) time)) (quiet_later (as_nanos t) after));
@@ -284,8 +371,8 @@ module _ {C S : Type 0} (b : Base C S) (h : List (Happening C S)) (v : DriverVie
   }
 
   -- a stream was proved: it is a link of its peer
-  pub proves : (n : ℕ) (p : C) (t draw : Duration) (node : NodeView C S) (dial : NextDial) (reads : List (ℕ × MetersView)) (links : List (C × Held)) (answers : AnswersView) →
-      IsAtOnce v.next_dial dial → IsRight b h (Happening.Proved n p t draw) → v.latest ≤ as_nanos t →
+  pub proves : (n : ℕ) (p : C) (t draw : Duration) (node : NodeView C S) (dial : NextDial C) (reads : List (ℕ × MetersView)) (links : List (C × Held)) (answers : AnswersView) →
+      IsSoon v.next_dial dial → IsRight b h (Happening.Proved n p t draw) → v.latest ≤ as_nanos t →
       NodeStandsAt b.made (Listen p (as_nanos t) (as_nanos draw) ∷ calls_of h) node →
       ((j : ℕ) → reads_of reads j ≡ (if j == n then Some (unread (length v.pace.channels.items + length v.pace.channels.items)) else reads_of v.reads j)) →
       ((q : C) → link_of d.cmp links q ≡ (if is_at (d.cmp p) q then Some (link_with n t) else link_of d.cmp v.links q)) →
@@ -315,28 +402,62 @@ module _ {C S : Type 0} (b : Base C S) (h : List (Happening C S)) (v : DriverVie
             (ap (λ (q : Pace). length q.channels.items + length q.channels.items) at.pace) empty (reads_at (as_nanos t) after);
         links = λ q. tied q ∙ ap (λ o. if is_at (d.cmp p) q then Some (link_with n t) else o) (at.links q)
             ∙ sym (link_opens d q p n t draw h);
-        counts = record {
-          inbound = let ended = one_more (is_ended Inbound) e h false refl in let all = one_more is_proved e h true refl in
-              let before = at.counts.inbound in let now = more Inbound in omega (arith, ended, all, before, now);
-          dialing = let ended = one_more (is_ended Dialing) e h false refl in let all = one_more is_dialed e h false refl in
-              let left = one_more is_reached e h false refl in
-              let before = at.counts.dialing in let now = more Dialing in omega (arith, ended, all, left, before, now);
-          outbound = let ended = one_more (is_ended Outbound) e h false refl in let all = one_more is_reached e h false refl in
-              let before = at.counts.outbound in let now = more Outbound in omega (arith, ended, all, before, now);
-        };
-        quiet = quiet_at_once (world_after d (calls_of (e ∷ h))) (as_nanos t) dial once;
-        retry = retry_at_once e dial once refl;
+        grants = grants_as e dial once.1 (λ p. refl) (λ p. refl);
+        counts = counts_begin e Inbound links (λ way. refl) refl refl refl refl refl more;
+        quiet = quiet_at_once (world_after d (calls_of (e ∷ h))) (as_nanos t) dial once.0;
+        retry = retry_at_once e dial once.0 refl;
         actions = says (sent n v.greeting) e refl
             (ap (sent n) (sym at.greeting));
         right = (right, in_time (as_nanos t) after, at.right);
       }
 
+  -- .. by a grant that was kept
+  pub adopts : (n : ℕ) (p : C) (t : Duration) (outbound : Bool) (dial : NextDial C) (reads : List (ℕ × MetersView)) (links : List (C × Held)) (answers : AnswersView) →
+      dial.from ≡ v.next_dial.from → dial.retry ≡ v.next_dial.retry → IsRight b h (Happening.Adopted n p t outbound) → v.latest ≤ as_nanos t →
+      ((j : ℕ) → reads_of reads j ≡ (if j == n then Some (unread (length v.pace.channels.items + length v.pace.channels.items)) else reads_of v.reads j)) →
+      ((q : C) → link_of d.cmp links q ≡ (if is_at (d.cmp p) q then Some (link_as (taken_way outbound) n t) else link_of d.cmp v.links q)) →
+      ((q : C) → grant_of d.cmp dial.grants q ≡ (if is_at (d.cmp p) q then None else grant_of d.cmp v.next_dial.grants q)) →
+      ((way : Direction) → count_of way links ≡ count_of way v.links + (if is_way way (taken_way outbound) then 1 else 0)) →
+      AreKept b.pace (as_nanos t) (answered_in h) answers →
+      DriverStandsAt b (Happening.Adopted n p t outbound ∷ h) (record v {
+        next_dial = dial;
+        latest = as_nanos t;
+        arrivals = filter (λ a. not (has_number n a)) v.arrivals;
+        answers = answers;
+        reads = reads;
+        links = links;
+        actions = v.actions ++ sent n v.greeting;
+      })
+  adopts n p t outbound dial reads links answers from retry right after empty tied spent more kept =
+      let e : Happening C S = Happening.Adopted n p t outbound in record {
+        node = at.node;
+        pace = at.pace;
+        greeting = at.greeting;
+        cooldown = at.cooldown;
+        latest = refl;
+        next = at.next ∙ sym (next_stays e h refl);
+        arrivals = streams_leave n e h v.arrivals refl (λ j. refl) (λ j. refl) (λ j. refl) at.arrivals;
+        answers = kept;
+        reads = metered_begins b.pace (as_nanos t) n (length v.pace.channels.items + length v.pace.channels.items) t e (λ j. refl) (λ j. refl) (λ j place. refl) h v.reads reads
+            (ap (λ (q : Pace). length q.channels.items + length q.channels.items) at.pace) empty (reads_at (as_nanos t) after);
+        links = λ q. tied q ∙ ap (λ o. if is_at (d.cmp p) q then Some (link_as (taken_way outbound) n t) else o) (at.links q)
+            ∙ sym (link_adopts d q p n t outbound h);
+        grants = λ q. spent q ∙ ap (λ o. if is_at (d.cmp p) q then None else o) (at.grants q) ∙ sym (grant_later d q e h);
+        counts = counts_begin e (taken_way outbound) links (λ way. refl) (inbound_taken outbound) (dialing_taken outbound) (over_taken outbound) refl
+            (outbound_taken outbound) more;
+        quiet = subst (λ o. IsQuietIn d (world_after d (calls_of h)) (as_nanos t) (option_map as_nanos o)) (sym from) (quiet_later (as_nanos t) after);
+        retry = retry ∙ retry_later e refl;
+        actions = says (sent n v.greeting) e refl (ap (sent n) (sym at.greeting));
+        right = (right, in_time (as_nanos t) after, at.right);
+      }
+
   -- a dial began
-  pub dials : (p : C) (t draw : Duration) (word : ℕ) (ingress : Ingress) (node : NodeView C S) (dial : NextDial) (reads : List (ℕ × MetersView)) (links : List (C × Held)) →
+  pub dials : (p : C) (t draw : Duration) (word : ℕ) (ingress : Ingress) (node : NodeView C S) (dial : NextDial C) (reads : List (ℕ × MetersView)) (links : List (C × Held)) →
       IsAtOnce v.next_dial dial → IsRight b h (Happening.Dialed v.next p t draw word ingress) → v.latest ≤ as_nanos t →
       NodeStandsAt b.made (Dial p (as_nanos t) (as_nanos draw) ∷ calls_of h) node →
       ((j : ℕ) → reads_of reads j ≡ (if j == v.next then Some (unread (length v.pace.channels.items + length v.pace.channels.items)) else reads_of v.reads j)) →
       ((q : C) → link_of d.cmp links q ≡ (if is_at (d.cmp p) q then Some (dial_with v.next t) else link_of d.cmp v.links q)) →
+      ((q : C) → grant_of d.cmp dial.grants q ≡ (if is_at (d.cmp p) q then Some t else grant_of d.cmp v.next_dial.grants q)) →
       ((way : Direction) → count_of way links ≡ count_of way v.links + (if is_way way Dialing then 1 else 0)) →
       DriverStandsAt b (Happening.Dialed v.next p t draw word ingress ∷ h) (record v {
         node = node;
@@ -347,7 +468,7 @@ module _ {C S : Type 0} (b : Base C S) (h : List (Happening C S)) (v : DriverVie
         links = links;
         actions = v.actions ++ dialing v.next p ingress;
       })
-  dials p t draw word ingress node dial reads links once right after made empty tied more =
+  dials p t draw word ingress node dial reads links once right after made empty tied given more =
       let e : Happening C S = Happening.Dialed v.next p t draw word ingress in record {
         node = made;
         pace = at.pace;
@@ -361,15 +482,8 @@ module _ {C S : Type 0} (b : Base C S) (h : List (Happening C S)) (v : DriverVie
             (ap (λ (q : Pace). length q.channels.items + length q.channels.items) at.pace) empty (reads_at (as_nanos t) after);
         links = λ q. tied q ∙ ap (λ o. if is_at (d.cmp p) q then Some (dial_with v.next t) else o) (at.links q)
             ∙ sym (link_dials d q p v.next t draw word ingress h);
-        counts = record {
-          inbound = let ended = one_more (is_ended Inbound) e h false refl in let all = one_more is_proved e h false refl in
-              let before = at.counts.inbound in let now = more Inbound in omega (arith, ended, all, before, now);
-          dialing = let ended = one_more (is_ended Dialing) e h false refl in let all = one_more is_dialed e h true refl in
-              let left = one_more is_reached e h false refl in
-              let before = at.counts.dialing in let now = more Dialing in omega (arith, ended, all, left, before, now);
-          outbound = let ended = one_more (is_ended Outbound) e h false refl in let all = one_more is_reached e h false refl in
-              let before = at.counts.outbound in let now = more Outbound in omega (arith, ended, all, before, now);
-        };
+        grants = λ q. given q ∙ ap (λ o. if is_at (d.cmp p) q then Some t else o) (at.grants q) ∙ sym (grant_begins d q p v.next t draw word ingress h);
+        counts = counts_begin e Dialing links (λ way. refl) refl refl refl refl refl more;
         quiet = quiet_at_once (world_after d (calls_of (e ∷ h))) (as_nanos t) dial once;
         retry = retry_at_once e dial once refl;
         actions = says (dialing v.next p ingress) e refl refl;
@@ -377,10 +491,10 @@ module _ {C S : Type 0} (b : Base C S) (h : List (Happening C S)) (v : DriverVie
       }
 
   -- memory was refused for one
-  pub undials : (t : Duration) (dial : NextDial) → dial.from ≡ v.next_dial.from →
+  pub undials : (t : Duration) (dial : NextDial C) → dial.from ≡ v.next_dial.from → dial.grants ≡ v.next_dial.grants →
       dial.retry ≡ as_nanos t + max (as_nanos b.pace.tick) 1 → IsRight b h (Happening.Undialed t) → v.latest ≤ as_nanos t →
       DriverStandsAt b (Happening.Undialed t ∷ h) (record v { next_dial = dial; latest = as_nanos t })
-  undials t dial same tried right after = let e : Happening C S = Happening.Undialed t in record {
+  undials t dial same kept tried right after = let e : Happening C S = Happening.Undialed t in record {
     node = at.node;
     pace = at.pace;
     greeting = at.greeting;
@@ -391,7 +505,8 @@ module _ {C S : Type 0} (b : Base C S) (h : List (Happening C S)) (v : DriverVie
     answers = answers_later (as_nanos t) after;
     reads = reads_later e (as_nanos t) after (λ j. refl) (λ j. refl) (λ j place. refl);
     links = links_stay e (λ p. refl) (λ p. refl) (λ p. refl);
-    counts = count_stays e (λ way. refl) refl refl refl;
+    grants = grants_as e dial kept (λ p. refl) (λ p. refl);
+    counts = count_stays e (λ way. refl) refl refl refl refl;
     quiet = subst (λ o. IsQuietIn d (world_after d (calls_of h)) (as_nanos t) (option_map as_nanos o)) (sym same) (quiet_later (as_nanos t) after);
     retry = tried;
     actions = says_nothing e refl refl;
@@ -420,6 +535,7 @@ module _ {C S : Type 0} (b : Base C S) (h : List (Happening C S)) (v : DriverVie
     reads = reads_later e (as_nanos t) after (λ j. refl) (λ j. refl) (λ j place. refl);
     links = λ q. tied q ∙ ap (λ o. if is_at (d.cmp p) q then option_map (λ x. saying (Some t) (reached t x)) o else o) (at.links q)
         ∙ sym (link_reaches d q p n t h);
+    grants = grants_stay e (λ p. refl) (λ p. refl);
     counts = record {
       inbound = let ended = one_more (is_ended Inbound) e h false refl in let all = one_more is_proved e h false refl in
           let before = at.counts.inbound in let now = moved Inbound in omega (arith, ended, all, before, now);
@@ -428,6 +544,8 @@ module _ {C S : Type 0} (b : Base C S) (h : List (Happening C S)) (v : DriverVie
           let before = at.counts.dialing in let now = moved Dialing in omega (arith, ended, all, left, before, now);
       outbound = let ended = one_more (is_ended Outbound) e h false refl in let all = one_more is_reached e h true refl in
           let before = at.counts.outbound in let now = moved Outbound in omega (arith, ended, all, before, now);
+      taken_over = let ended = one_more (is_ended TakenOver) e h false refl in let all = one_more is_taken_over e h false refl in
+          let before = at.counts.taken_over in let now = moved TakenOver in omega (arith, ended, all, before, now);
     };
     quiet = quiet_later (as_nanos t) after;
     retry = retry_later e refl;
@@ -436,10 +554,11 @@ module _ {C S : Type 0} (b : Base C S) (h : List (Happening C S)) (v : DriverVie
   }
 
   -- a link ended
-  pub ends : (n : ℕ) (p : C) (t : Duration) (direction : Direction) (node : NodeView C S) (dial : NextDial) (reads : List (ℕ × MetersView)) (links : List (C × Held)) →
-      IsAtOnce v.next_dial dial → IsLinkOf b h n p direction → v.latest ≤ as_nanos t → NodeStandsAt b.made (Release p ∷ calls_of h) node →
+  pub ends : (n : ℕ) (p : C) (t : Duration) (direction : Direction) (node : NodeView C S) (dial : NextDial C) (reads : List (ℕ × MetersView)) (links : List (C × Held)) →
+      IsAtOnce v.next_dial dial → IsRight b h (Happening.Ended n p t direction) → v.latest ≤ as_nanos t → NodeStandsAt b.made (Release p ∷ calls_of h) node →
       ((j : ℕ) → reads_of reads j ≡ (if j == n then None else reads_of v.reads j)) →
       ((q : C) → link_of d.cmp links q ≡ (if is_at (d.cmp p) q then None else link_of d.cmp v.links q)) →
+      ((q : C) → grant_of d.cmp dial.grants q ≡ (if is_at (d.cmp p) q then None else grant_of d.cmp v.next_dial.grants q)) →
       ((way : Direction) → count_of way links + (if is_way way direction then 1 else 0) ≡ count_of way v.links) →
       DriverStandsAt b (Happening.Ended n p t direction ∷ h) (record v {
         node = node;
@@ -449,7 +568,7 @@ module _ {C S : Type 0} (b : Base C S) (h : List (Happening C S)) (v : DriverVie
         links = links;
         actions = v.actions ++ parted p (link_of d.cmp v.links p);
       })
-  ends n p t direction node dial reads links once right after made gone tied less = let e : Happening C S = Happening.Ended n p t direction in record {
+  ends n p t direction node dial reads links once right after made gone tied spent less = let e : Happening C S = Happening.Ended n p t direction in record {
     node = made;
     pace = at.pace;
     greeting = at.greeting;
@@ -458,21 +577,70 @@ module _ {C S : Type 0} (b : Base C S) (h : List (Happening C S)) (v : DriverVie
     next = at.next ∙ sym (next_stays e h refl);
     arrivals = streams_stay e h v.arrivals refl (λ j. refl) (λ j. refl) (λ j. refl) at.arrivals;
     answers = answers_later (as_nanos t) after;
-    reads = metered_ends b.pace (as_nanos t) n p t direction h v.reads reads gone (reads_at (as_nanos t) after);
+    reads = metered_ends b.pace (as_nanos t) n e (λ j. refl) (λ j. refl) (λ j place. refl) h v.reads reads gone (reads_at (as_nanos t) after);
     links = λ q. tied q ∙ ap (λ o. if is_at (d.cmp p) q then None else o) (at.links q)
         ∙ sym (link_later d q e h refl ∙ ended_link (is_at (d.cmp p) q) (link_at d q h));
-    counts = record {
-      inbound = let ended = one_more (is_ended Inbound) e h (is_way Inbound direction) refl in let all = one_more is_proved e h false refl in
-          ended_counts (is_way Inbound direction) (count_of Inbound links) _ _ _ _ _ (less Inbound) ended all at.counts.inbound;
-      dialing = let ended = one_more (is_ended Dialing) e h (is_way Dialing direction) refl in let all = one_more is_dialed e h false refl in
-          let left = one_more is_reached e h false refl in
-          dialing_counts (is_way Dialing direction) (count_of Dialing links) _ _ _ _ _ _ _ (less Dialing) ended all left at.counts.dialing;
-      outbound = let ended = one_more (is_ended Outbound) e h (is_way Outbound direction) refl in let all = one_more is_reached e h false refl in
-          ended_counts (is_way Outbound direction) (count_of Outbound links) _ _ _ _ _ (less Outbound) ended all at.counts.outbound;
-    };
+    grants = λ q. spent q ∙ ap (λ o. if is_at (d.cmp p) q then None else o) (at.grants q) ∙ sym (grant_later d q e h);
+    counts = counts_end e direction links (λ way. refl) refl refl refl refl less;
     quiet = quiet_at_once (world_after d (calls_of (e ∷ h))) (as_nanos t) dial once;
     retry = retry_at_once e dial once refl;
     actions = says (parted p (link_of d.cmp v.links p)) e refl (ap (parted p) (sym (at.links p)));
+    right = (right, in_time (as_nanos t) after, at.right);
+  }
+
+  -- .. of a dial, whose grant is kept
+  pub fails : (n : ℕ) (p : C) (t : Duration) (direction : Direction) (reads : List (ℕ × MetersView)) (links : List (C × Held)) →
+      IsRight b h (Happening.Failed n p t direction) → v.latest ≤ as_nanos t →
+      ((j : ℕ) → reads_of reads j ≡ (if j == n then None else reads_of v.reads j)) →
+      ((q : C) → link_of d.cmp links q ≡ (if is_at (d.cmp p) q then None else link_of d.cmp v.links q)) →
+      ((way : Direction) → count_of way links + (if is_way way direction then 1 else 0) ≡ count_of way v.links) →
+      DriverStandsAt b (Happening.Failed n p t direction ∷ h) (record v {
+        latest = as_nanos t;
+        reads = reads;
+        links = links;
+        actions = v.actions ++ parted p (link_of d.cmp v.links p);
+      })
+  fails n p t direction reads links right after gone tied less = let e : Happening C S = Happening.Failed n p t direction in record {
+    node = at.node;
+    pace = at.pace;
+    greeting = at.greeting;
+    cooldown = at.cooldown;
+    latest = refl;
+    next = at.next ∙ sym (next_stays e h refl);
+    arrivals = streams_stay e h v.arrivals refl (λ j. refl) (λ j. refl) (λ j. refl) at.arrivals;
+    answers = answers_later (as_nanos t) after;
+    reads = metered_ends b.pace (as_nanos t) n e (λ j. refl) (λ j. refl) (λ j place. refl) h v.reads reads gone (reads_at (as_nanos t) after);
+    links = λ q. tied q ∙ ap (λ o. if is_at (d.cmp p) q then None else o) (at.links q)
+        ∙ sym (link_later d q e h refl ∙ ended_link (is_at (d.cmp p) q) (link_at d q h));
+    grants = grants_stay e (λ p. refl) (λ p. refl);
+    counts = counts_end e direction links (λ way. refl) refl refl refl refl less;
+    quiet = quiet_later (as_nanos t) after;
+    retry = retry_later e refl;
+    actions = says (parted p (link_of d.cmp v.links p)) e refl (ap (parted p) (sym (at.links p)));
+    right = (right, in_time (as_nanos t) after, at.right);
+  }
+
+  -- a grant that was kept is given up
+  pub frees : (p : C) (t : Duration) (node : NodeView C S) (dial : NextDial C) → IsAtOnce v.next_dial dial → IsRight b h (Happening.Released p t) →
+      v.latest ≤ as_nanos t → NodeStandsAt b.made (Release p ∷ calls_of h) node →
+      ((q : C) → grant_of d.cmp dial.grants q ≡ (if is_at (d.cmp p) q then None else grant_of d.cmp v.next_dial.grants q)) →
+      DriverStandsAt b (Happening.Released p t ∷ h) (record v { node = node; next_dial = dial; latest = as_nanos t })
+  frees p t node dial once right after made spent = let e : Happening C S = Happening.Released p t in record {
+    node = made;
+    pace = at.pace;
+    greeting = at.greeting;
+    cooldown = at.cooldown;
+    latest = refl;
+    next = at.next ∙ sym (next_stays e h refl);
+    arrivals = streams_stay e h v.arrivals refl (λ j. refl) (λ j. refl) (λ j. refl) at.arrivals;
+    answers = answers_later (as_nanos t) after;
+    reads = reads_later e (as_nanos t) after (λ j. refl) (λ j. refl) (λ j place. refl);
+    links = links_stay e (λ p. refl) (λ p. refl) (λ p. refl);
+    grants = λ q. spent q ∙ ap (λ o. if is_at (d.cmp p) q then None else o) (at.grants q) ∙ sym (grant_later d q e h);
+    counts = count_stays e (λ way. refl) refl refl refl refl;
+    quiet = quiet_at_once (world_after d (calls_of (e ∷ h))) (as_nanos t) dial once;
+    retry = retry_at_once e dial once refl;
+    actions = says_nothing e refl refl;
     right = (right, in_time (as_nanos t) after, at.right);
   }
 
@@ -488,9 +656,10 @@ module _ {C S : Type 0} (b : Base C S) (h : List (Happening C S)) (v : DriverVie
       ∙ ap (λ x. link_after false x (link_at d q h)) touch)
 
   -- it is looked for somebody to dial at another time
-  pub looks : (dial : NextDial) → IsQuietIn d (world_after d (calls_of h)) (latest_at h) (option_map as_nanos dial.from) → dial.retry ≡ v.next_dial.retry →
+  pub looks : (dial : NextDial C) → IsQuietIn d (world_after d (calls_of h)) (latest_at h) (option_map as_nanos dial.from) → dial.retry ≡ v.next_dial.retry →
+      dial.grants ≡ v.next_dial.grants →
       DriverStandsAt b h (record v { next_dial = dial })
-  looks dial quiet same = record {
+  looks dial quiet same kept = record {
     node = at.node;
     pace = at.pace;
     greeting = at.greeting;
@@ -501,6 +670,7 @@ module _ {C S : Type 0} (b : Base C S) (h : List (Happening C S)) (v : DriverVie
     answers = at.answers;
     reads = at.reads;
     links = at.links;
+    grants = λ q. ap (λ gs. grant_of d.cmp gs q) kept ∙ at.grants q;
     counts = at.counts;
     quiet = quiet;
     retry = same ∙ at.retry;
@@ -529,7 +699,8 @@ module _ {C S : Type 0} (b : Base C S) (h : List (Happening C S)) (v : DriverVie
     answers = answers_later (as_nanos t) after;
     reads = reads_later e (as_nanos t) after (λ j. refl) (λ j. refl) (λ j place. refl);
     links = λ q. links_closed e links q (is_at (d.cmp p) q) refl refl refl (tied q);
-    counts = counts_stay e links (λ way. refl) refl refl refl same;
+    grants = grants_stay e (λ p. refl) (λ p. refl);
+    counts = counts_stay e links (λ way. refl) refl refl refl refl same;
     quiet = quiet_later (as_nanos t) after;
     retry = retry_later e refl;
     actions = says (shut p why.WrongKey (link_of d.cmp v.links p)) e refl (ap (shut p why.WrongKey) (sym (at.links p)));
@@ -537,8 +708,8 @@ module _ {C S : Type 0} (b : Base C S) (h : List (Happening C S)) (v : DriverVie
   }
 
   -- a set came that was accepted
-  pub tears : (t : Duration) (index : ℕ) (primary secondary torn : List C) (node : NodeView C S) (dial : NextDial) (links : List (C × Held)) (told : List (Action C)) →
-      IsAtOnce v.next_dial dial → IsRight b h (Happening.SetCame t index primary secondary torn) → v.latest ≤ as_nanos t →
+  pub tears : (t : Duration) (index : ℕ) (primary secondary torn : List C) (node : NodeView C S) (dial : NextDial C) (links : List (C × Held)) (told : List (Action C)) →
+      IsSoon v.next_dial dial → IsRight b h (Happening.SetCame t index primary secondary torn) → v.latest ≤ as_nanos t →
       NodeStandsAt b.made (Track index primary secondary ∷ calls_of h) node →
       ((q : C) → link_of d.cmp links q ≡ (if has_key d.cmp torn q then option_map closed (link_of d.cmp v.links q) else link_of d.cmp v.links q)) →
       ((way : Direction) → count_of way links ≡ count_of way v.links) → told ≡ shut_all d.cmp torn (λ p. link_of d.cmp v.links p) →
@@ -561,9 +732,10 @@ module _ {C S : Type 0} (b : Base C S) (h : List (Happening C S)) (v : DriverVie
         answers = answers_later (as_nanos t) after;
         reads = reads_later e (as_nanos t) after (λ j. refl) (λ j. refl) (λ j place. refl);
         links = λ q. links_closed e links q (has_key d.cmp torn q) refl refl refl (tied q);
-        counts = counts_stay e links (λ way. refl) refl refl refl same;
-        quiet = quiet_at_once (world_after d (calls_of (e ∷ h))) (as_nanos t) dial once;
-        retry = retry_at_once e dial once refl;
+        grants = grants_as e dial once.1 (λ p. refl) (λ p. refl);
+        counts = counts_stay e links (λ way. refl) refl refl refl refl same;
+        quiet = quiet_at_once (world_after d (calls_of (e ∷ h))) (as_nanos t) dial once.0;
+        retry = retry_at_once e dial once.0 refl;
         actions = says told e refl (sym (is ∙ ap (shut_all d.cmp torn) (λ i p. at.links p i)));
         right = (right, in_time (as_nanos t) after, at.right);
       }
@@ -589,7 +761,8 @@ module _ {C S : Type 0} (b : Base C S) (h : List (Happening C S)) (v : DriverVie
     answers = answers_later (as_nanos t) after;
     reads = reads_later e (as_nanos t) after (λ j. refl) (λ j. refl) (λ j place. refl);
     links = λ q. links_closed e links q (is_at (d.cmp p) q) refl refl refl (tied q);
-    counts = counts_stay e links (λ way. refl) refl refl refl same;
+    grants = grants_stay e (λ p. refl) (λ p. refl);
+    counts = counts_stay e links (λ way. refl) refl refl refl refl same;
     quiet = quiet_later (as_nanos t) after;
     retry = retry_later e refl;
     actions = says (shut p (why_late (link_of d.cmp v.links p)) (link_of d.cmp v.links p)) e refl
@@ -599,8 +772,8 @@ module _ {C S : Type 0} (b : Base C S) (h : List (Happening C S)) (v : DriverVie
 
   -- the peer of a link was heard
   pub hears : (n : ℕ) (p : C) (t : Duration) (owed : ℕ) (cause : Cause) (outcome : Outcome C S)
-      (node : NodeView C S) (dial : NextDial) (reads : List (ℕ × MetersView)) (links : List (C × Held)) →
-      IsSought (calls_for p t outcome) v.next_dial dial → IsRight b h (Happening.Heard n p t owed cause outcome) → v.latest ≤ as_nanos t →
+      (node : NodeView C S) (dial : NextDial C) (reads : List (ℕ × MetersView)) (links : List (C × Held)) →
+      IsSoughtFor d.cmp p t outcome v.next_dial dial → IsRight b h (Happening.Heard n p t owed cause outcome) → v.latest ≤ as_nanos t →
       NodeStandsAt b.made (calls_for p t outcome ++ calls_of h) node →
       AreMetered b.pace (as_nanos t) (Happening.Heard n p t owed cause outcome ∷ h) reads →
       ((q : C) → link_of d.cmp links q ≡ (if is_at (d.cmp p) q then option_map (heard_as t owed outcome) (link_of d.cmp v.links q) else link_of d.cmp v.links q)) →
@@ -626,9 +799,10 @@ module _ {C S : Type 0} (b : Base C S) (h : List (Happening C S)) (v : DriverVie
         reads = metered;
         links = λ q. tied q ∙ ap (λ o. if is_at (d.cmp p) q then option_map (heard_as t owed outcome) o else o) (at.links q)
             ∙ sym (link_hears d q p n t owed cause outcome h);
-        counts = counts_stay e links (λ way. refl) refl refl refl same;
-        quiet = quiet_by (calls_for p t outcome) (as_nanos t) dial after sought;
-        retry = retried_by (calls_for p t outcome) dial sought ∙ retry_later e refl;
+        grants = λ q. sought.1 q ∙ ap (λ o. if is_greeted outcome && is_at (d.cmp p) q then None else o) (at.grants q) ∙ sym (grant_later d q e h);
+        counts = counts_stay e links (λ way. refl) refl refl refl refl same;
+        quiet = quiet_by (calls_for p t outcome) (as_nanos t) dial after sought.0;
+        retry = retried_by (calls_for p t outcome) dial sought.0 ∙ retry_later e refl;
         actions = says (answered_on n p outcome (link_of d.cmp v.links p)) e refl (ap (answered_on n p outcome) (sym (at.links p)));
         right = (right, in_time (as_nanos t) after, at.right);
       }
@@ -655,7 +829,8 @@ module _ {C S : Type 0} (b : Base C S) (h : List (Happening C S)) (v : DriverVie
     reads = reads_later e (as_nanos t) after (λ j. refl) (λ j. refl) (λ j place. refl);
     links = λ q. tied q ∙ ap (λ o. if is_at (d.cmp p) q then option_map (λ x. saying (said_with t question) (asking owed (asked_after t question x.asked) x)) o else o) (at.links q)
         ∙ sym (link_asks d q p n t owed fits question h);
-    counts = counts_stay e links (λ way. refl) refl refl refl same;
+    grants = grants_stay e (λ p. refl) (λ p. refl);
+    counts = counts_stay e links (λ way. refl) refl refl refl refl same;
     quiet = quiet_later (as_nanos t) after;
     retry = retry_later e refl;
     actions = says (asking_on n question) e refl refl;
@@ -680,7 +855,8 @@ module _ {C S : Type 0} (b : Base C S) (h : List (Happening C S)) (v : DriverVie
     reads = reads_later e (as_nanos t) after (λ j. refl) (λ j. refl) (λ j place. refl);
     links = λ q. tied q ∙ ap (λ o. if is_at (d.cmp p) q then option_map writing o else o) (at.links q)
         ∙ sym (link_writes d q p n t h);
-    counts = counts_stay e links (λ way. refl) refl refl refl same;
+    grants = grants_stay e (λ p. refl) (λ p. refl);
+    counts = counts_stay e links (λ way. refl) refl refl refl refl same;
     quiet = quiet_later (as_nanos t) after;
     retry = retry_later e refl;
     actions = says_nothing e refl refl;
@@ -706,7 +882,8 @@ module _ {C S : Type 0} (b : Base C S) (h : List (Happening C S)) (v : DriverVie
     reads = metered;
     links = λ q. tied q ∙ ap (λ o. if is_at (d.cmp p) q then option_map (saying (Some t)) o else o) (at.links q)
         ∙ sym (link_speaks d q p n t place h);
-    counts = counts_stay e links (λ way. refl) refl refl refl same;
+    grants = grants_stay e (λ p. refl) (λ p. refl);
+    counts = counts_stay e links (λ way. refl) refl refl refl refl same;
     quiet = quiet_later (as_nanos t) after;
     retry = retry_later e refl;
     actions = says_nothing e refl refl;
@@ -714,7 +891,7 @@ module _ {C S : Type 0} (b : Base C S) (h : List (Happening C S)) (v : DriverVie
   }
 
   -- infos came
-  pub gives : (infos : List (Info C S)) (t : Duration) (node : NodeView C S) (dial : NextDial) → IsAtOnce v.next_dial dial → v.latest ≤ as_nanos t →
+  pub gives : (infos : List (Info C S)) (t : Duration) (node : NodeView C S) (dial : NextDial C) → IsSoon v.next_dial dial → v.latest ≤ as_nanos t →
       NodeStandsAt b.made (Update infos ∷ calls_of h) node →
       DriverStandsAt b (Happening.Given infos t ∷ h) (record v { node = node; next_dial = dial; latest = as_nanos t })
   gives infos t node dial once after made = let e : Happening C S = Happening.Given infos t in record {
@@ -728,16 +905,17 @@ module _ {C S : Type 0} (b : Base C S) (h : List (Happening C S)) (v : DriverVie
     answers = answers_later (as_nanos t) after;
     reads = reads_later e (as_nanos t) after (λ j. refl) (λ j. refl) (λ j place. refl);
     links = links_stay e (λ p. refl) (λ p. refl) (λ p. refl);
-    counts = count_stays e (λ way. refl) refl refl refl;
-    quiet = quiet_at_once (world_after d (calls_of (e ∷ h))) (as_nanos t) dial once;
-    retry = retry_at_once e dial once refl;
+    grants = grants_as e dial once.1 (λ p. refl) (λ p. refl);
+    counts = count_stays e (λ way. refl) refl refl refl refl;
+    quiet = quiet_at_once (world_after d (calls_of (e ∷ h))) (as_nanos t) dial once.0;
+    retry = retry_at_once e dial once.0 refl;
     actions = says_nothing e refl refl;
     right = (tt, in_time (as_nanos t) after, at.right);
   }
 
   -- a peer was blocked, and its link is closed
-  pub bars : (p : C) (t : Duration) (taken : Bool) (node : NodeView C S) (dial : NextDial) (links : List (C × Held)) →
-      IsAtOnce v.next_dial dial → IsRight b h (Happening.Barred p t taken) → v.latest ≤ as_nanos t →
+  pub bars : (p : C) (t : Duration) (taken : Bool) (node : NodeView C S) (dial : NextDial C) (links : List (C × Held)) →
+      IsSoon v.next_dial dial → IsRight b h (Happening.Barred p t taken) → v.latest ≤ as_nanos t →
       NodeStandsAt b.made (Block p (as_nanos t) ∷ calls_of h) node →
       ((q : C) → link_of d.cmp links q ≡ (if is_at (d.cmp p) q then option_map closed (link_of d.cmp v.links q) else link_of d.cmp v.links q)) →
       ((way : Direction) → count_of way links ≡ count_of way v.links) →
@@ -759,9 +937,10 @@ module _ {C S : Type 0} (b : Base C S) (h : List (Happening C S)) (v : DriverVie
     answers = answers_later (as_nanos t) after;
     reads = reads_later e (as_nanos t) after (λ j. refl) (λ j. refl) (λ j place. refl);
     links = λ q. links_closed e links q (is_at (d.cmp p) q) refl refl refl (tied q);
-    counts = counts_stay e links (λ way. refl) refl refl refl same;
-    quiet = quiet_at_once (world_after d (calls_of (e ∷ h))) (as_nanos t) dial once;
-    retry = retry_at_once e dial once refl;
+    grants = grants_as e dial once.1 (λ p. refl) (λ p. refl);
+    counts = counts_stay e links (λ way. refl) refl refl refl refl same;
+    quiet = quiet_at_once (world_after d (calls_of (e ∷ h))) (as_nanos t) dial once.0;
+    retry = retry_at_once e dial once.0 refl;
     actions = says (shut p why.Blocked (link_of d.cmp v.links p)) e refl (ap (shut p why.Blocked) (sym (at.links p)));
     right = (right, in_time (as_nanos t) after, at.right);
   }
@@ -787,7 +966,8 @@ module _ {C S : Type 0} (b : Base C S) (h : List (Happening C S)) (v : DriverVie
     answers = answers_later (as_nanos t) after;
     reads = reads_later e (as_nanos t) after (λ j. refl) (λ j. refl) (λ j place. refl);
     links = λ q. links_closed e links q (is_at (d.cmp p) q) refl refl refl (tied q);
-    counts = counts_stay e links (λ way. refl) refl refl refl same;
+    grants = grants_stay e (λ p. refl) (λ p. refl);
+    counts = counts_stay e links (λ way. refl) refl refl refl refl same;
     quiet = quiet_later (as_nanos t) after;
     retry = retry_later e refl;
     actions = says (shut p why.Application (link_of d.cmp v.links p)) e refl (ap (shut p why.Application) (sym (at.links p)));
@@ -810,7 +990,8 @@ module _ {C S : Type 0} (b : Base C S) (h : List (Happening C S)) (v : DriverVie
     answers = answers_later (as_nanos t) after;
     reads = reads_later e (as_nanos t) after (λ j. refl) (λ j. refl) (λ j place. refl);
     links = links_stay e (λ p. refl) (λ p. refl) (λ p. refl);
-    counts = count_stays e (λ way. refl) refl refl refl;
+    grants = grants_stay e (λ p. refl) (λ p. refl);
+    counts = count_stays e (λ way. refl) refl refl refl refl;
     quiet = quiet;
     retry = retry_later e refl;
     actions = says_nothing e refl refl;
@@ -826,7 +1007,7 @@ module _ {C S : Type 0} (b : Base C S) (h : List (Happening C S)) (v : DriverVie
       go (Some found) = refl
 
   -- a set came that wasn't accepted
-  pub stale : (index : ℕ) (primary secondary : List C) (node : NodeView C S) (dial : NextDial) → IsAtOnce v.next_dial dial →
+  pub stale : (index : ℕ) (primary secondary : List C) (node : NodeView C S) (dial : NextDial C) → IsSoon v.next_dial dial →
       IsRight b h (Happening.StaleSetCame index primary secondary) →
       NodeStandsAt b.made (Track index primary secondary ∷ calls_of h) node →
       DriverStandsAt b (Happening.StaleSetCame index primary secondary ∷ h) (record v { node = node; next_dial = dial })
@@ -843,9 +1024,10 @@ module _ {C S : Type 0} (b : Base C S) (h : List (Happening C S)) (v : DriverVie
         reads = subst (λ t. AreMetered b.pace t (e ∷ h) v.reads) (latest_stays e refl)
             (metered_stays b.pace (latest_at h) e h v.reads (λ j. refl) (λ j. refl) (λ j place. refl) at.reads);
         links = links_stay e (λ p. refl) (λ p. refl) (λ p. refl);
-        counts = count_stays e (λ way. refl) refl refl refl;
-        quiet = quiet_at_once (world_after d (calls_of (e ∷ h))) (latest_at (e ∷ h)) dial once;
-        retry = retry_at_once e dial once refl;
+        grants = grants_as e dial once.1 (λ p. refl) (λ p. refl);
+        counts = count_stays e (λ way. refl) refl refl refl refl;
+        quiet = quiet_at_once (world_after d (calls_of (e ∷ h))) (latest_at (e ∷ h)) dial once.0;
+        retry = retry_at_once e dial once.0 refl;
         actions = says_nothing e refl refl;
         right = (right, tt, at.right);
       }
@@ -865,7 +1047,8 @@ module _ {C S : Type 0} (b : Base C S) (h : List (Happening C S)) (v : DriverVie
     reads = subst (λ t. AreMetered b.pace t (e ∷ h) v.reads) (latest_stays e refl)
         (metered_stays b.pace (latest_at h) e h v.reads (λ j. refl) (λ j. refl) (λ j place. refl) at.reads);
     links = links_stay e (λ p. refl) (λ p. refl) (λ p. refl);
-    counts = count_stays e (λ way. refl) refl refl refl;
+    grants = grants_stay e (λ p. refl) (λ p. refl);
+    counts = count_stays e (λ way. refl) refl refl refl refl;
     quiet = subst (λ t. IsQuietIn d (world_after d (calls_of h)) t (option_map as_nanos v.next_dial.from)) (latest_stays e refl) at.quiet;
     retry = retry_later e refl;
     actions = took_one (taken h) later (said d b.greeting h) a (ap (λ xs. taken h ++ xs) (sym is) ∙ at.actions);

@@ -22,14 +22,18 @@ use Rattle.p2p_tracker.specs.World
 use Rattle.p2p_tracker.specs.World.{World, past, status_after}
 use Rattle.p2p_directory.specs.Run.{world_after, event_of}
 use Rattle.p2p_directory.proofs.LawsOfRuns.OneCall
+use Rattle.p2p_driver.specs.declared.links.Direction.{Direction}
+use Rattle.p2p_driver.specs.declared.links.Direction.TheVariants as way
 use Rattle.p2p_driver.specs.declared.links.Held.{Held}
 use Rattle.p2p_driver.specs.declared.links.Phase.TheVariants as phase
 use Rattle.p2p_driver.specs.Frames.{Outcome}
-use Rattle.p2p_driver.specs.Happenings.{Happening, calls_of, calls_for, link_at, link_since, opened_by, ends_by, closes_by, greets_by, is_greeted, kept_of}
-use Rattle.p2p_driver.specs.Drivers.{DriverView, Base, DriverStandsAt, AreRight, link}
+use Rattle.p2p_driver.specs.Happenings.{Happening, calls_of, calls_for, link_at, link_since, opened_by, ends_by, closes_by, greets_by, is_greeted, kept_of, granted_by, spends_by, grant_at}
+use Rattle.p2p_driver.specs.Grants.{unless_linked}
+use Rattle.p2p_driver.specs.Drivers.{DriverView, Base, DriverStandsAt, AreRight, link, kept}
 use Rattle.p2p_driver.specs.Laws.{since_of, has_greeted}
-use Rattle.p2p_driver.specs.Links.{link_of}
-use Rattle.p2p_driver.proofs.Busy.{may_listen}
+use Rattle.p2p_driver.specs.Links.{link_of, taken_way}
+use Rattle.p2p_driver.proofs.Busy.{may_listen, is_linked, adopts_kept, stays_has_grant}
+use Rattle.p2p_driver.proofs.GrantHistory.{grant_after, grant_later, grant_begins}
 use Rattle.p2p_driver.proofs.LinkHistory.{of_greeting, of_open}
 
 -- A LINK AND ITS STATUS
@@ -73,6 +77,71 @@ no_link held is = cc
 some_is : {A : Type 0} {x y : A} → Some x ≡ Some y → x ≡ y
 some_is e = cc
 
+-- .. and a grant of a dial is kept, or none is
+abbrev pub with_grant : Option Duration → Status → Status
+with_grant (Some t) Inert = Reserved
+with_grant grant status = status
+
+reserved_stays : (grant : Option Duration) → with_grant grant Reserved ≡ Reserved
+reserved_stays None = refl
+reserved_stays (Some t) = refl
+
+active_stays : (grant : Option Duration) → with_grant grant Active ≡ Active
+active_stays None = refl
+active_stays (Some t) = refl
+
+grant_connects_none : (grant : Option Duration) (st : Status) → is_active (with_grant grant st) ≡ is_active st
+grant_connects_none None st = refl
+grant_connects_none (Some t) Inert = refl
+grant_connects_none (Some t) Reserved = refl
+grant_connects_none (Some t) Active = refl
+
+-- .. on which the peer hasn't greeted
+kept_reserved : (grant : Option Duration) (st : Status) → is_some grant ≡ true → is_active st ≡ false → with_grant grant st ≡ Reserved
+kept_reserved None st has isnt = absurd cc
+kept_reserved (Some t) Inert has isnt = refl
+kept_reserved (Some t) Reserved has isnt = refl
+kept_reserved (Some t) Active has isnt = absurd cc
+
+-- .. by whether one began, one is spent, or it ended
+begins_with : (x : Bool) (t : Duration) (grant : Option Duration) (st : Status) →
+    with_grant (if x then Some t else grant) (if x then Reserved else st) ≡ (if x then Reserved else with_grant grant st)
+begins_with true t grant st = refl
+begins_with false t grant st = refl
+
+opens_with : (x : Bool) (grant : Option Duration) (st : Status) → with_grant grant (if x then Reserved else st) ≡ (if x then Reserved else with_grant grant st)
+opens_with true grant st = reserved_stays grant
+opens_with false grant st = refl
+
+ends_with : (x : Bool) (grant : Option Duration) (st : Status) →
+    with_grant (if x then None else grant) (status_with x false st) ≡ (if x then Inert else with_grant grant st)
+ends_with true grant st = refl
+ends_with false grant st = refl
+
+fails_with : (x : Bool) (grant : Option Duration) (st : Status) → (x ≡ true → (is_some grant ≡ true) × (is_active st ≡ false)) →
+    with_grant grant (status_with x false st) ≡ with_grant grant st
+fails_with true None st is = let has = (is refl).0 in absurd cc
+fails_with true (Some t) st is = sym (kept_reserved (Some t) st refl (is refl).1)
+fails_with false grant st is = refl
+
+frees_with : (x : Bool) (grant : Option Duration) (st : Status) → (x ≡ true → st ≡ Inert) →
+    with_grant (if x then None else grant) st ≡ (if x then Inert else with_grant grant st)
+frees_with true grant st is = is refl
+frees_with false grant st is = refl
+
+adopts_with : (x : Bool) (grant : Option Duration) (st : Status) → (x ≡ true → with_grant grant st ≡ Reserved) →
+    with_grant (if x then None else grant) (if x then Reserved else st) ≡ with_grant grant st
+adopts_with true grant st is = sym (is refl)
+adopts_with false grant st is = refl
+
+greets_with : (x : Bool) (grant : Option Duration) (st : Status) → (x ≡ true → is_inert st ≡ false) →
+    with_grant (if x then None else grant) (status_with false x st) ≡ greeted_if x (with_grant grant st)
+greets_with true None st linked = refl
+greets_with true (Some t) Inert linked = let isnt = linked refl in absurd cc
+greets_with true (Some t) Reserved linked = refl
+greets_with true (Some t) Active linked = refl
+greets_with false grant st linked = refl
+
 -- an inert status, by what it isn't
 is_none : (status : Status) → false ≡ not (is_inert status) → Inert ≡ status
 is_none Inert is = refl
@@ -81,82 +150,159 @@ is_none Active is = absurd cc
 
 module _ {C S : Type 0} (s : Settings C S) where
   -- how p stands by its last link: inert without one, or once it ended; active since it greeted; else reserved
-  abbrev pub status_since : C → Option ((ℕ × Bool × Duration) × List (Happening C S)) → Status
+  abbrev pub status_since : C → Option ((ℕ × Direction × Duration) × List (Happening C S)) → Status
   status_since p None = Inert
   status_since p (Some found) = status_of (list_any (ends_by s p) found.1) (list_any (greets_by s p) found.1)
 
-  abbrev pub status_by : C → List (Happening C S) → Status
-  status_by p h = status_since p (last_with (opened_by s p) h)
+  abbrev pub link_status : C → List (Happening C S) → Status
+  link_status p h = status_since p (last_with (opened_by s p) h)
 
-  since_later : (p : C) (e : Happening C S) (found : Option ((ℕ × Bool × Duration) × List (Happening C S))) →
+  -- .. and by the grant of a dial on which it hasn't greeted: reserved without a link
+  abbrev pub status_by : C → List (Happening C S) → Status
+  status_by p h = with_grant (grant_at s p h) (link_status p h)
+
+  since_later : (p : C) (e : Happening C S) (found : Option ((ℕ × Direction × Duration) × List (Happening C S))) →
       status_since p (found_with None e found) ≡ status_with (ends_by s p e) (greets_by s p e) (status_since p found)
   since_later p e None = sym (none_yet (ends_by s p e) (greets_by s p e))
   since_later p e (Some found) = one_more (ends_by s p e) (list_any (ends_by s p) found.1)
       (greets_by s p e) (list_any (greets_by s p) found.1)
 
   -- one more happening by which no link of p began
-  status_later : (p : C) (e : Happening C S) (h : List (Happening C S)) → opened_by s p e ≡ None →
-      status_by p (e ∷ h) ≡ status_with (ends_by s p e) (greets_by s p e) (status_by p h)
-  status_later p e h none = ap (λ o. status_since p (found_with o e (last_with (opened_by s p) h))) none
+  link_later_status : (p : C) (e : Happening C S) (h : List (Happening C S)) → opened_by s p e ≡ None →
+      link_status p (e ∷ h) ≡ status_with (ends_by s p e) (greets_by s p e) (link_status p h)
+  link_later_status p e h none = ap (λ o. status_since p (found_with o e (last_with (opened_by s p) h))) none
       ∙ since_later p e (last_with (opened_by s p) h)
 
+  -- .. as its link and its grant tell
+  status_later : (p : C) (e : Happening C S) (h : List (Happening C S)) → opened_by s p e ≡ None →
+      status_by p (e ∷ h) ≡ with_grant (grant_after (granted_by s p e) (spends_by s p e) (grant_at s p h))
+      (status_with (ends_by s p e) (greets_by s p e) (link_status p h))
+  status_later p e h none = λ i. with_grant (grant_later s p e h i) (link_later_status p e h none i)
+
+  -- a link that is there is reserved or active
+  linked_status : (h : List (Happening C S)) (p : C) → is_some (link_at s p h) ≡ not (is_inert (link_status p h))
+  linked_status h p = go (last_with (opened_by s p) h)
+    where
+      at : (ended greets : Bool) (held : Held) → is_some (if ended then None else Some held) ≡ not (is_inert (status_of ended greets))
+      at true greets held = refl
+      at false true held = refl
+      at false false held = refl
+
+      go : (found : Option ((ℕ × Direction × Duration) × List (Happening C S))) →
+          is_some (link_since s p found) ≡ not (is_inert (status_since p found))
+      go None = refl
+      go (Some found) = at (list_any (ends_by s p) found.1) (list_any (greets_by s p) found.1)
+          (kept_of s p found.0.0 found.0.1 found.0.2 found.1)
+
+  -- what grants a dial begins a link
+  unopened_grants_none : (p : C) (e : Happening C S) → opened_by s p e ≡ None → granted_by s p e ≡ None
+  unopened_grants_none p (Happening.Dialed n q t draw word ingress) none = go (same s q p) none
+    where
+      go : (x : Bool) → if◌then◌else◌ {A = Option (ℕ × Direction × Duration)} x (Some (n, way.Dialing, t)) None ≡ None →
+          if◌then◌else◌ {A = Option Duration} x (Some t) None ≡ None
+      go true none = absurd cc
+      go false none = refl
+  unopened_grants_none p e none = refl
+
+  -- who greets spends the grant
+  greets_spends : (p : C) (e : Happening C S) → greets_by s p e ≡ true → spends_by s p e ≡ true
+  greets_spends p (Happening.Adopted n q t outbound) is = absurd cc
+  greets_spends p (Happening.Ended n q t direction) is = absurd cc
+  greets_spends p (Happening.Released q t) is = absurd cc
+  greets_spends p e is = is
+
+  -- a peer that has a grant hasn't greeted
+  pub ungreeted : (h : List (Happening C S)) (p : C) → is_some (grant_at s p h) ≡ true → is_active (link_status p h) ≡ false
+  ungreeted [] p has = refl
+  ungreeted (e ∷ h) p has = by (opened_by s p e) refl (ungreeted h p)
+    where
+      here : (ends greets spends : Bool) (grant : Option Duration) (st : Status) → (greets ≡ true → spends ≡ true) →
+          is_some (grant_after None spends grant) ≡ true → (is_some grant ≡ true → is_active st ≡ false) →
+          is_active (status_with ends greets st) ≡ false
+      here true greets spends grant st both has before = refl
+      here false true spends grant st both has before = absurd (none spends (both refl) has)
+        where
+          none : (x : Bool) → x ≡ true → ¬ (is_some (grant_after None x grant) ≡ true)
+          none true is has = cc
+          none false is has = cc
+      here false false true grant st both has before = absurd cc
+      here false false false grant st both has before = before has
+
+      by : (o : Option (ℕ × Direction × Duration)) → opened_by s p e ≡ o → (is_some (grant_at s p h) ≡ true → is_active (link_status p h) ≡ false) →
+          is_active (link_status p (e ∷ h)) ≡ false
+      by (Some start) is before = ap (λ o. is_active (status_since p (found_with o e (last_with (opened_by s p) h)))) is
+      by None is before = ap is_active (link_later_status p e h is)
+          ∙ here (ends_by s p e) (greets_by s p e) (spends_by s p e) (grant_at s p h) (link_status p h) (greets_spends p e)
+          (sym (ap is_some (grant_later s p e h ∙ ap (λ o. grant_after o (spends_by s p e) (grant_at s p h)) (unopened_grants_none p e is))) ∙ has)
+          before
+
   status_opens : (p q : C) (n : ℕ) (t draw : Duration) (h : List (Happening C S)) →
-      status_by p (Happening.Proved n q t draw ∷ h) ≡ (if same s q p then Reserved else status_by p h)
+      link_status p (Happening.Proved n q t draw ∷ h) ≡ (if same s q p then Reserved else link_status p h)
   status_opens p q n t draw h = go (same s q p)
     where
-      go : (b : Bool) → status_since p (found_with (if b then Some (n, false, t) else None)
+      go : (b : Bool) → status_since p (found_with (if b then Some (n, way.Inbound, t) else None)
           (Happening.Proved n q t draw) (last_with (opened_by s p) h))
-          ≡ (if b then Reserved else status_by p h)
+          ≡ (if b then Reserved else link_status p h)
       go true = refl
       go false = since_later p (Happening.Proved n q t draw) (last_with (opened_by s p) h)
 
+  status_adopts : (p q : C) (n : ℕ) (t : Duration) (outbound : Bool) (h : List (Happening C S)) →
+      link_status p (Happening.Adopted n q t outbound ∷ h) ≡ (if same s q p then Reserved else link_status p h)
+  status_adopts p q n t outbound h = go (same s q p)
+    where
+      go : (b : Bool) → status_since p (found_with (if b then Some (n, taken_way outbound, t) else None)
+          (Happening.Adopted n q t outbound) (last_with (opened_by s p) h))
+          ≡ (if b then Reserved else link_status p h)
+      go true = refl
+      go false = since_later p (Happening.Adopted n q t outbound) (last_with (opened_by s p) h)
+
   status_dials : (p q : C) (n : ℕ) (t draw : Duration) (word : ℕ) (ingress : Ingress) (h : List (Happening C S)) →
-      status_by p (Happening.Dialed n q t draw word ingress ∷ h) ≡ (if same s q p then Reserved else status_by p h)
+      link_status p (Happening.Dialed n q t draw word ingress ∷ h) ≡ (if same s q p then Reserved else link_status p h)
   status_dials p q n t draw word ingress h = go (same s q p)
     where
-      go : (b : Bool) → status_since p (found_with (if b then Some (n, true, t) else None)
+      go : (b : Bool) → status_since p (found_with (if b then Some (n, way.Dialing, t) else None)
           (Happening.Dialed n q t draw word ingress) (last_with (opened_by s p) h))
-          ≡ (if b then Reserved else status_by p h)
+          ≡ (if b then Reserved else link_status p h)
       go true = refl
       go false = since_later p (Happening.Dialed n q t draw word ingress) (last_with (opened_by s p) h)
 
   -- a link on which p hasn't greeted is reserved
   pub greeting_is_reserved : (h : List (Happening C S)) (p : C) (held : Held) → link_at s p h ≡ Some held →
-      held.phase ≡ phase.Greeting → status_by p h ≡ Reserved
+      held.phase ≡ phase.Greeting → link_status p h ≡ Reserved
   greeting_is_reserved h p held of_p is = go (last_with (opened_by s p) h) of_p
     where
-      at : (found : (ℕ × Bool × Duration) × List (Happening C S)) (ended : Bool) →
+      at : (found : (ℕ × Direction × Duration) × List (Happening C S)) (ended : Bool) →
           (if ended then None else Some (kept_of s p found.0.0 found.0.1 found.0.2 found.1)) ≡ Some held →
           status_of ended (list_any (greets_by s p) found.1) ≡ Reserved
       at found true of_p = absurd (no_link held of_p)
       at found false of_p = ap (status_of false) (of_greeting (list_any (closes_by s p) found.1)
           (list_any (greets_by s p) found.1) (ap (λ (x : Held). x.phase) (some_is of_p) ∙ is))
 
-      go : (found : Option ((ℕ × Bool × Duration) × List (Happening C S))) → link_since s p found ≡ Some held →
+      go : (found : Option ((ℕ × Direction × Duration) × List (Happening C S))) → link_since s p found ≡ Some held →
           status_since p found ≡ Reserved
       go None of_p = absurd (no_link held of_p)
       go (Some found) of_p = at found (list_any (ends_by s p) found.1) of_p
 
   -- .. and one on which it has is active
   pub open_is_active : (h : List (Happening C S)) (p : C) (held : Held) → link_at s p h ≡ Some held →
-      held.phase ≡ phase.Open → status_by p h ≡ Active
+      held.phase ≡ phase.Open → link_status p h ≡ Active
   open_is_active h p held of_p is = go (last_with (opened_by s p) h) of_p
     where
-      at : (found : (ℕ × Bool × Duration) × List (Happening C S)) (ended : Bool) →
+      at : (found : (ℕ × Direction × Duration) × List (Happening C S)) (ended : Bool) →
           (if ended then None else Some (kept_of s p found.0.0 found.0.1 found.0.2 found.1)) ≡ Some held →
           status_of ended (list_any (greets_by s p) found.1) ≡ Active
       at found true of_p = absurd (no_link held of_p)
       at found false of_p = ap (status_of false) (of_open (list_any (closes_by s p) found.1)
           (list_any (greets_by s p) found.1) (ap (λ (x : Held). x.phase) (some_is of_p) ∙ is))
 
-      go : (found : Option ((ℕ × Bool × Duration) × List (Happening C S))) → link_since s p found ≡ Some held →
+      go : (found : Option ((ℕ × Direction × Duration) × List (Happening C S))) → link_since s p found ≡ Some held →
           status_since p found ≡ Active
       go None of_p = absurd (no_link held of_p)
       go (Some found) of_p = at found (list_any (ends_by s p) found.1) of_p
 
   -- a peer is active exactly if it has a link on which it has greeted
   active_if : (h : List (Happening C S)) (p : C) →
-      is_active (status_by p h) ≡ (is_some (link_at s p h) && has_greeted s p h)
+      is_active (link_status p h) ≡ (is_some (link_at s p h) && has_greeted s p h)
   active_if h p = go (last_with (opened_by s p) h)
     where
       at : (ended greets : Bool) (held : Held) →
@@ -165,7 +311,7 @@ module _ {C S : Type 0} (s : Settings C S) where
       at false true held = refl
       at false false held = refl
 
-      go : (found : Option ((ℕ × Bool × Duration) × List (Happening C S))) →
+      go : (found : Option ((ℕ × Direction × Duration) × List (Happening C S))) →
           is_active (status_since p found) ≡ (is_some (link_since s p found) && list_any (greets_by s p) (since_of found))
       go None = refl
       go (Some found) = at (list_any (ends_by s p) found.1) (list_any (greets_by s p) found.1)
@@ -291,87 +437,101 @@ module _ {C S : Type 0} (b : Base C S) where
     heard cs q t (Outcome.Delays next) p = refl
     heard cs q t (Outcome.Reads kind looked) p = refl
 
-    ended_or : (x : Bool) (st : Status) → status_with x false st ≡ (if x then Inert else st)
-    ended_or true st = refl
-    ended_or false st = refl
+    -- a grant that is kept is there, and its peer has no link
+    kept_parts : (link : Option Held) (grant : Option Duration) → is_some (unless_linked link grant) ≡ true → (is_some link ≡ false) × (is_some grant ≡ true)
+    kept_parts None grant has = (refl, has)
+    kept_parts (Some held) grant has = absurd cc
+
+    kept_has_grant : (h : List (Happening C S)) (p : C) → is_some (kept b p h) ≡ true → is_some (grant_at d p h) ≡ true
+    kept_has_grant h p has = (kept_parts (link b p h) (grant_at d p h) has).1
+
+    kept_is_inert : (h : List (Happening C S)) (p : C) → is_some (kept b p h) ≡ true → link_status d p h ≡ Inert
+    kept_is_inert h p has = sym (is_none (link_status d p h) (sym (kept_parts (link b p h) (grant_at d p h) has).0 ∙ linked_status d h p))
 
     -- as the last link of p tells
     pub status_is : (h : List (Happening C S)) → AreRight b h → (p : C) →
         ((world_after d (calls_of h)).peer p).status ≡ status_by d p h
     status_is [] right p = refl
-    status_is (Happening.Arrived n origin t space ∷ h) right p = status_is h right.2 p
-        ∙ sym (status_later d p (Happening.Arrived n origin t space) h refl)
-    status_is (Happening.Claimed n q origin t ∷ h) right p = status_is h right.2 p
-        ∙ sym (status_later d p (Happening.Claimed n q origin t) h refl)
-    status_is (Happening.Refused n q t why ∷ h) right p = status_is h right.2 p
-        ∙ sym (status_later d p (Happening.Refused n q t why) h refl)
     status_is (Happening.Proved n q t draw ∷ h) right p =
         listened (calls_of h) q (as_nanos t) (as_nanos draw) p (may_listen b h q (as_nanos t) right.0.1)
         ∙ ap (λ st. if same d q p then Reserved else st) (status_is h right.2 p)
-        ∙ sym (status_opens d p q n t draw h)
-    status_is (Happening.Unproved n q t why ∷ h) right p = status_is h right.2 p
-        ∙ sym (status_later d p (Happening.Unproved n q t why) h refl)
-    status_is (Happening.Left n t ∷ h) right p = status_is h right.2 p
-        ∙ sym (status_later d p (Happening.Left n t) h refl)
+        ∙ sym ((λ i. with_grant (grant_later d p (Happening.Proved n q t draw) h i) (status_opens d p q n t draw h i))
+        ∙ opens_with (same d q p) (grant_at d p h) (link_status d p h))
+    status_is (Happening.Adopted n q t outbound ∷ h) right p = status_is h right.2 p
+        ∙ sym ((λ i. with_grant (grant_later d p (Happening.Adopted n q t outbound) h i) (status_adopts d p q n t outbound h i))
+        ∙ adopts_with (same d q p) (grant_at d p h) (link_status d p h) reserved)
+      where
+        reserved : same d q p ≡ true → with_grant (grant_at d p h) (link_status d p h) ≡ Reserved
+        reserved is = let has = kept_has_grant h p (subst (λ r. is_some (kept b r h) ≡ true) (tells_apart exact q p is) (adopts_kept b h q (as_nanos t) right.0.1)) in
+            kept_reserved (grant_at d p h) (link_status d p h) has (ungreeted d h p has)
     status_is (Happening.Dialed n q t draw word ingress ∷ h) right p =
         dialled (calls_of h) q (as_nanos t) (as_nanos draw) p right.0.granted
         ∙ ap (λ st. if same d q p then Reserved else st) (status_is h right.2 p)
-        ∙ sym (status_dials d p q n t draw word ingress h)
-    status_is (Happening.Undialed t ∷ h) right p = status_is h right.2 p
-        ∙ sym (status_later d p (Happening.Undialed t) h refl)
-    status_is (Happening.Reached n q t ∷ h) right p = status_is h right.2 p
-        ∙ sym (status_later d p (Happening.Reached n q t) h refl)
-    status_is (Happening.Mistaken n q t ∷ h) right p = status_is h right.2 p
-        ∙ sym (status_later d p (Happening.Mistaken n q t) h refl)
+        ∙ sym ((λ i. with_grant (grant_begins d p q n t draw word ingress h i) (status_dials d p q n t draw word ingress h i))
+        ∙ begins_with (same d q p) t (grant_at d p h) (link_status d p h))
     status_is (Happening.Ended n q t direction ∷ h) right p = released (calls_of h) q p
         ∙ ap (λ st. if same d q p then Inert else st) (status_is h right.2 p)
-        ∙ sym (status_later d p (Happening.Ended n q t direction) h refl ∙ ended_or (same d q p) (status_by d p h))
+        ∙ sym (status_later d p (Happening.Ended n q t direction) h refl ∙ ends_with (same d q p) (grant_at d p h) (link_status d p h))
+    status_is (Happening.Failed n q t direction ∷ h) right p = status_is h right.2 p
+        ∙ sym (status_later d p (Happening.Failed n q t direction) h refl ∙ fails_with (same d q p) (grant_at d p h) (link_status d p h) calm)
+      where
+        calm : same d q p ≡ true → (is_some (grant_at d p h) ≡ true) × (is_active (link_status d p h) ≡ false)
+        calm is = let has = subst (λ r. is_some (grant_at d r h) ≡ true) (tells_apart exact q p is) (stays_has_grant b h q (as_nanos t) right.0.1) in
+            (has, ungreeted d h p has)
+    status_is (Happening.Released q t ∷ h) right p = released (calls_of h) q p
+        ∙ ap (λ st. if same d q p then Inert else st) (status_is h right.2 p)
+        ∙ sym (status_later d p (Happening.Released q t) h refl ∙ frees_with (same d q p) (grant_at d p h) (link_status d p h) unlinked)
+      where
+        unlinked : same d q p ≡ true → link_status d p h ≡ Inert
+        unlinked is = kept_is_inert h p (subst (λ r. is_some (kept b r h) ≡ true) (tells_apart exact q p is) right.0.0)
     status_is (Happening.SetCame t index primary secondary torn ∷ h) right p =
         tracked (calls_of h) index primary secondary p ∙ status_is h right.2 p
         ∙ sym (status_later d p (Happening.SetCame t index primary secondary torn) h refl)
     status_is (Happening.StaleSetCame index primary secondary ∷ h) right p =
         tracked (calls_of h) index primary secondary p ∙ status_is h right.2 p
         ∙ sym (status_later d p (Happening.StaleSetCame index primary secondary) h refl)
-    status_is (Happening.StreamLate n t ∷ h) right p = status_is h right.2 p
-        ∙ sym (status_later d p (Happening.StreamLate n t) h refl)
-    status_is (Happening.LinkLate n q t ∷ h) right p = status_is h right.2 p
-        ∙ sym (status_later d p (Happening.LinkLate n q t) h refl)
-    status_is (Happening.Written n q t ∷ h) right p = status_is h right.2 p
-        ∙ sym (status_later d p (Happening.Written n q t) h refl)
-    status_is (Happening.Spoken n q t place ∷ h) right p = status_is h right.2 p
-        ∙ sym (status_later d p (Happening.Spoken n q t place) h refl)
     status_is (Happening.Heard n q t owed cause outcome ∷ h) right p = heard (calls_of h) q t outcome p
         ∙ ap (greeted_if (is_greeted outcome && same d q p)) (status_is h right.2 p)
-        ∙ sym (status_later d p (Happening.Heard n q t owed cause outcome) h refl)
-    status_is (Happening.Asked n q t owed fits question ∷ h) right p = status_is h right.2 p
-        ∙ sym (status_later d p (Happening.Asked n q t owed fits question) h refl)
+        ∙ sym (status_later d p (Happening.Heard n q t owed cause outcome) h refl
+        ∙ greets_with (is_greeted outcome && same d q p) (grant_at d p h) (link_status d p h) linked)
+      where
+        last : (x y : Bool) → (x && y) ≡ true → y ≡ true
+        last true y is = is
+        last false y is = absurd cc
+
+        not_so : (x : Bool) → true ≡ not x → x ≡ false
+        not_so true is = absurd cc
+        not_so false is = refl
+
+        linked : (is_greeted outcome && same d q p) ≡ true → is_inert (link_status d p h) ≡ false
+        linked is = not_so _ (sym (subst (λ r. is_some (link b r h) ≡ true) (tells_apart exact q p (last (is_greeted outcome) (same d q p) is))
+            (is_linked _ (link b q h) right.0)) ∙ linked_status d h p)
     status_is (Happening.Given infos t ∷ h) right p = updated (calls_of h) infos p ∙ status_is h right.2 p
         ∙ sym (status_later d p (Happening.Given infos t) h refl)
     status_is (Happening.Barred q t taken ∷ h) right p = blocked (calls_of h) q (as_nanos t) p ∙ status_is h right.2 p
         ∙ sym (status_later d p (Happening.Barred q t taken) h refl)
-    status_is (Happening.Parted q t ∷ h) right p = status_is h right.2 p
-        ∙ sym (status_later d p (Happening.Parted q t) h refl)
     status_is (Happening.Passed t ∷ h) right p = passed (calls_of h) (as_nanos t) p ∙ status_is h right.2 p
         ∙ sym (status_later d p (Happening.Passed t) h refl)
-    status_is (Happening.Taken action ∷ h) right p = status_is h right.2 p
-        ∙ sym (status_later d p (Happening.Taken action) h refl)
+    status_is (e ∷ h) right p = status_is h right.2 p ∙ sym (status_later d p e h refl)
 
     -- a peer that hasn't greeted may be connected once infos were applied
     pub connects : (h : List (Happening C S)) → AreRight b h → (p : C) (held : Held) → link b p h ≡ Some held →
         held.phase ≡ phase.Greeting → (infos : List (Info C S)) →
         may_connect d (world_after d (Update infos ∷ calls_of h)) p ≡ true
     connects h right p held of_p is infos = ap is_reserved (updated (calls_of h) infos p ∙ status_is h right p
-        ∙ greeting_is_reserved d h p held of_p is)
+        ∙ ap (with_grant (grant_at d p h)) (greeting_is_reserved d h p held of_p is) ∙ reserved_stays (grant_at d p h))
 
     -- .. and one that has is connected
     pub is_connected : (h : List (Happening C S)) → AreRight b h → (p : C) (held : Held) → link b p h ≡ Some held →
         held.phase ≡ phase.Open → ((world_after d (calls_of h)).peer p).status ≡ Active
-    is_connected h right p held of_p is = status_is h right p ∙ open_is_active d h p held of_p is
+    is_connected h right p held of_p is = status_is h right p
+        ∙ ap (with_grant (grant_at d p h)) (open_is_active d h p held of_p is) ∙ active_stays (grant_at d p h)
 
     -- who is connected
     pub connected_if : (h : List (Happening C S)) → AreRight b h → (p : C) →
         is_active ((world_after d (calls_of h)).peer p).status ≡ (is_some (link b p h) && has_greeted d p h)
-    connected_if h right p = ap is_active (status_is h right p) ∙ active_if d h p
+    connected_if h right p = ap is_active (status_is h right p)
+        ∙ grant_connects_none (grant_at d p h) (link_status d p h) ∙ active_if d h p
 
     -- .. as it is seen of a driver
     pub connects_by : (h : List (Happening C S)) (v : DriverView C S) → DriverStandsAt b h v → (p : C) (held : Held) →

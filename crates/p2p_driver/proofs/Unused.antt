@@ -9,13 +9,13 @@ use Rattle.p2p_discovery.specs.declared.types.ingress.Ingress.{Ingress}
 use Rattle.p2p_tracker.specs.History.{same}
 use Rattle.p2p_driver.specs.Arrivals.{has_number}
 use Rattle.p2p_driver.specs.Happenings.{Happening, next_at, stream_at, came_by, leaves_by, claim_by, is_new, opened_by, ends_by}
-use Rattle.p2p_driver.specs.Links.{link_of, link_with, dial_with}
+use Rattle.p2p_driver.specs.Links.{link_of, link_with, link_as, taken_way, dial_with}
 use Rattle.std.specs.declared.cmp.Ordering.{Ordering}
-use Rattle.p2p_driver.specs.Drivers.{DriverView, Base, DriverStandsAt, IsRight, AreRight, s, link, is_claim_by}
+use Rattle.p2p_driver.specs.Drivers.{DriverView, Base, DriverStandsAt, IsRight, AreRight, s, link, is_claimed, is_claim_by}
 use Rattle.p2p_driver.specs.declared.arrivals.Arrival.{Arrival}
 use Rattle.p2p_driver.specs.declared.links.Held.{Held}
 use Rattle.p2p_driver.proofs.StreamHistory.{stream_after, stream_later, next_stays, next_rises}
-use Rattle.p2p_driver.proofs.LinkHistory.{Touch, touch_by, link_after, link_later, link_opens, link_dials}
+use Rattle.p2p_driver.proofs.LinkHistory.{Touch, touch_by, link_after, link_later, link_opens, link_adopts, link_dials}
 
 -- the number of a link, if there is one
 abbrev number_of : Option Held → ℕ
@@ -46,29 +46,7 @@ module _ {C S : Type 0} where
   -- what is no stream that came is of no number
   came_never : (n : ℕ) (e : Happening C S) → is_new e ≡ false → came_by n e ≡ None
   came_never n (Happening.Arrived m origin t space) new = absurd cc
-  came_never n (Happening.Claimed m p origin t) new = refl
-  came_never n (Happening.Refused m p t why) new = refl
-  came_never n (Happening.Proved m p t draw) new = refl
-  came_never n (Happening.Unproved m p t why) new = refl
-  came_never n (Happening.Left m t) new = refl
-  came_never n (Happening.Dialed m p t draw word ingress) new = refl
-  came_never n (Happening.Undialed t) new = refl
-  came_never n (Happening.Reached m p t) new = refl
-  came_never n (Happening.Mistaken m p t) new = refl
-  came_never n (Happening.Ended m p t direction) new = refl
-  came_never n (Happening.SetCame t index primary secondary torn) new = refl
-  came_never n (Happening.StaleSetCame index primary secondary) new = refl
-  came_never n (Happening.StreamLate m t) new = refl
-  came_never n (Happening.LinkLate m p t) new = refl
-  came_never n (Happening.Written m p t) new = refl
-  came_never n (Happening.Spoken m p t place) new = refl
-  came_never n (Happening.Heard m p t owed cause outcome) new = refl
-  came_never n (Happening.Asked m p t owed fits question) new = refl
-  came_never n (Happening.Given infos t) new = refl
-  came_never n (Happening.Barred p t taken) new = refl
-  came_never n (Happening.Parted p t) new = refl
-  came_never n (Happening.Passed t) new = refl
-  came_never n (Happening.Taken action) new = refl
+  came_never n e new = refl
 
 module _ {C S : Type 0} (b : Base C S) where
   -- a stream that comes has the next number
@@ -79,29 +57,8 @@ module _ {C S : Type 0} (b : Base C S) where
     where
       differ : (m : ℕ) → m ≡ next_at h → (m == n) ≡ false
       differ m is = grind (arith, nat_tests)
-  new_is_next n (Happening.Claimed m p origin t) h right new other = absurd cc
-  new_is_next n (Happening.Refused m p t why) h right new other = absurd cc
-  new_is_next n (Happening.Proved m p t draw) h right new other = absurd cc
-  new_is_next n (Happening.Unproved m p t why) h right new other = absurd cc
-  new_is_next n (Happening.Left m t) h right new other = absurd cc
   new_is_next n (Happening.Dialed m p t draw word ingress) h right new other = refl
-  new_is_next n (Happening.Undialed t) h right new other = absurd cc
-  new_is_next n (Happening.Reached m p t) h right new other = absurd cc
-  new_is_next n (Happening.Mistaken m p t) h right new other = absurd cc
-  new_is_next n (Happening.Ended m p t direction) h right new other = absurd cc
-  new_is_next n (Happening.SetCame t index primary secondary torn) h right new other = absurd cc
-  new_is_next n (Happening.StaleSetCame index primary secondary) h right new other = absurd cc
-  new_is_next n (Happening.StreamLate m t) h right new other = absurd cc
-  new_is_next n (Happening.LinkLate m p t) h right new other = absurd cc
-  new_is_next n (Happening.Written m p t) h right new other = absurd cc
-  new_is_next n (Happening.Spoken m p t place) h right new other = absurd cc
-  new_is_next n (Happening.Heard m p t owed cause outcome) h right new other = absurd cc
-  new_is_next n (Happening.Asked m p t owed fits question) h right new other = absurd cc
-  new_is_next n (Happening.Given infos t) h right new other = absurd cc
-  new_is_next n (Happening.Barred p t taken) h right new other = absurd cc
-  new_is_next n (Happening.Parted p t) h right new other = absurd cc
-  new_is_next n (Happening.Passed t) h right new other = absurd cc
-  new_is_next n (Happening.Taken action) h right new other = absurd cc
+  new_is_next n e h right new other = absurd cc
 
   -- by what is right no stream comes but with the next number
   came_not : (n : ℕ) (e : Happening C S) (h : List (Happening C S)) → IsRight b h e →
@@ -167,45 +124,36 @@ module _ {C S : Type 0} (b : Base C S) where
       (sym (link_later (s b) q e h opened) ∙ is) in
       used_later held.number e h right (subst (λ n. IsUsed n h) old.2 (before old.0 old.1))
 
-  -- .. and where a proof does
-  used_by_proof : (q : C) (held : Held) (n : ℕ) (p : C) (t draw : Duration) (h : List (Happening C S)) →
-      IsRight b h (Happening.Proved n p t draw) → AreRight b h →
-      ((old : Held) → link b q h ≡ Some old → IsUsed old.number h) →
-      link b q (Happening.Proved n p t draw ∷ h) ≡ Some held →
-      IsUsed held.number (Happening.Proved n p t draw ∷ h)
-  used_by_proof q held n p t draw h right rights before is =
-      go (same (s b) p q) (sym (link_opens (s b) q p n t draw h) ∙ is)
+  -- .. and where one does
+  used_begun : (q : C) (held : Held) (e : Happening C S) (n : ℕ) (p : C) (new : Held) (h : List (Happening C S)) → IsRight b h e →
+      IsUsed n (e ∷ h) → new.number ≡ n → link b q (e ∷ h) ≡ (if same (s b) p q then Some new else link b q h) →
+      ((old : Held) → link b q h ≡ Some old → IsUsed old.number h) → link b q (e ∷ h) ≡ Some held → IsUsed held.number (e ∷ h)
+  used_begun q held e n p new h right now number tied before is = go (same (s b) p q) (sym tied ∙ is)
     where
-      e : Happening C S
-      e = Happening.Proved n p t draw
+      go : (x : Bool) → (if x then Some new else link b q h) ≡ Some held → IsUsed held.number (e ∷ h)
+      go true found = subst (λ k. IsUsed k (e ∷ h)) (sym number ∙ ap number_of found) now
+      go false found = used_later held.number e h right (before held found)
 
-      itself : (n == n) ≡ true
-      itself = grind (arith, nat_tests)
-
+  -- the number of a stream that was proved is used
+  used_proof : (e : Happening C S) (n : ℕ) (p : C) (h : List (Happening C S)) → AreRight b h → is_claimed b h n p ≡ true →
+      came_by n e ≡ None → claim_by n e ≡ None → leaves_by n e ≡ true → IsUsed n (e ∷ h)
+  used_proof e n p h rights claimed came claim goes = (
+    stream_later n e h came ∙ ap (λ x. stream_after x (claim_by n e) (stream_at n h)) goes
+        ∙ ap (λ o. stream_after true o (stream_at n h)) claim ∙ leaves (stream_at n h),
+    stays_below n e h (below n h rights (claims_is_some b.made.directory.cmp p (stream_at n h) claimed)),
+  )
+    where
       leaves : (o : Option (Arrival C)) → stream_after true None o ≡ None
       leaves None = refl
       leaves (Some a) = refl
 
-      now : IsUsed n (e ∷ h)
-      now = (
-        stream_later n e h refl ∙ ap (λ b. stream_after b None (stream_at n h)) itself
-            ∙ leaves (stream_at n h),
-        stays_below n e h (below n h rights (claims_is_some b.made.directory.cmp p (stream_at n h) right.0)),
-      )
-
-      go : (new : Bool) → (if new then Some (link_with n t) else link b q h) ≡ Some held →
-          IsUsed held.number (e ∷ h)
-      go true found = subst (λ k. IsUsed k (e ∷ h)) (ap number_of found) now
-      go false found = used_later held.number e h right (before held found)
-
-  -- .. or a dial does, with the next number
-  used_by_dial : (q : C) (held : Held) (n : ℕ) (p : C) (t draw : Duration) (word : ℕ) (ingress : Ingress) (h : List (Happening C S)) →
-      IsRight b h (Happening.Dialed n p t draw word ingress) → AreRight b h →
-      ((old : Held) → link b q h ≡ Some old → IsUsed old.number h) →
-      link b q (Happening.Dialed n p t draw word ingress ∷ h) ≡ Some held →
-      IsUsed held.number (Happening.Dialed n p t draw word ingress ∷ h)
-  used_by_dial q held n p t draw word ingress h right rights before is =
-      go (same (s b) p q) (sym (link_dials (s b) q p n t draw word ingress h) ∙ is)
+  -- .. and that of a dial, which has the next one
+  used_dial : (n : ℕ) (p : C) (t draw : Duration) (word : ℕ) (ingress : Ingress) (h : List (Happening C S)) → AreRight b h → n ≡ next_at h →
+      IsUsed n (Happening.Dialed n p t draw word ingress ∷ h)
+  used_dial n p t draw word ingress h rights next = (
+    stream_later n e h refl ∙ none (stream_at n h) (below n h rights) next,
+    (let more = next_rises e h refl in omega (arith, more, next)),
+  )
     where
       e : Happening C S
       e = Happening.Dialed n p t draw word ingress
@@ -214,71 +162,23 @@ module _ {C S : Type 0} (b : Base C S) where
       none None below is = refl
       none (Some a) below is = let less = below refl in absurd (omega (arith, less, is))
 
-      now : IsUsed n (e ∷ h)
-      now = (
-        stream_later n e h refl ∙ none (stream_at n h) (below n h rights) right.number,
-        (let more = next_rises e h refl in let next = right.number in omega (arith, more, next)),
-      )
-
-      go : (new : Bool) → (if new then Some (dial_with n t) else link b q h) ≡ Some held →
-          IsUsed held.number (e ∷ h)
-      go true found = subst (λ k. IsUsed k (e ∷ h)) (ap number_of found) now
-      go false found = used_later held.number e h right (before held found)
+  itself : (n : ℕ) → (n == n) ≡ true
+  itself n = grind (arith, nat_tests)
 
   -- the number of a link is used
   pub used : (h : List (Happening C S)) → AreRight b h → (q : C) (held : Held) → link b q h ≡ Some held →
       IsUsed held.number h
   used [] right q held is = absurd cc
   used (Happening.Proved n p t draw ∷ h) right q held is =
-      used_by_proof q held n p t draw h right.0 right.2 (used h right.2 q) is
-  used (Happening.Arrived n origin t space ∷ h) right q held is =
-      used_by_link q held (Happening.Arrived n origin t space) h right.0 refl (used h right.2 q) is
-  used (Happening.Claimed n p origin t ∷ h) right q held is =
-      used_by_link q held (Happening.Claimed n p origin t) h right.0 refl (used h right.2 q) is
-  used (Happening.Refused n p t why ∷ h) right q held is =
-      used_by_link q held (Happening.Refused n p t why) h right.0 refl (used h right.2 q) is
-  used (Happening.Unproved n p t why ∷ h) right q held is =
-      used_by_link q held (Happening.Unproved n p t why) h right.0 refl (used h right.2 q) is
-  used (Happening.Left n t ∷ h) right q held is =
-      used_by_link q held (Happening.Left n t) h right.0 refl (used h right.2 q) is
+      used_begun q held (Happening.Proved n p t draw) n p (link_with n t) h right.0
+      (used_proof (Happening.Proved n p t draw) n p h right.2 right.0.0 refl refl (itself n)) refl (link_opens (s b) q p n t draw h) (used h right.2 q) is
+  used (Happening.Adopted n p t outbound ∷ h) right q held is =
+      used_begun q held (Happening.Adopted n p t outbound) n p (link_as (taken_way outbound) n t) h right.0
+      (used_proof (Happening.Adopted n p t outbound) n p h right.2 right.0.0 refl refl (itself n)) refl (link_adopts (s b) q p n t outbound h) (used h right.2 q) is
   used (Happening.Dialed n p t draw word ingress ∷ h) right q held is =
-      used_by_dial q held n p t draw word ingress h right.0 right.2 (used h right.2 q) is
-  used (Happening.Undialed t ∷ h) right q held is =
-      used_by_link q held (Happening.Undialed t) h right.0 refl (used h right.2 q) is
-  used (Happening.Reached n p t ∷ h) right q held is =
-      used_by_link q held (Happening.Reached n p t) h right.0 refl (used h right.2 q) is
-  used (Happening.Mistaken n p t ∷ h) right q held is =
-      used_by_link q held (Happening.Mistaken n p t) h right.0 refl (used h right.2 q) is
-  used (Happening.Ended n p t direction ∷ h) right q held is =
-      used_by_link q held (Happening.Ended n p t direction) h right.0 refl (used h right.2 q) is
-  used (Happening.SetCame t index primary secondary torn ∷ h) right q held is =
-      used_by_link q held (Happening.SetCame t index primary secondary torn) h right.0 refl
-      (used h right.2 q) is
-  used (Happening.StaleSetCame index primary secondary ∷ h) right q held is =
-      used_by_link q held (Happening.StaleSetCame index primary secondary) h right.0 refl
-      (used h right.2 q) is
-  used (Happening.StreamLate n t ∷ h) right q held is =
-      used_by_link q held (Happening.StreamLate n t) h right.0 refl (used h right.2 q) is
-  used (Happening.LinkLate n p t ∷ h) right q held is =
-      used_by_link q held (Happening.LinkLate n p t) h right.0 refl (used h right.2 q) is
-  used (Happening.Written n p t ∷ h) right q held is =
-      used_by_link q held (Happening.Written n p t) h right.0 refl (used h right.2 q) is
-  used (Happening.Spoken n p t place ∷ h) right q held is =
-      used_by_link q held (Happening.Spoken n p t place) h right.0 refl (used h right.2 q) is
-  used (Happening.Heard n p t owed cause outcome ∷ h) right q held is =
-      used_by_link q held (Happening.Heard n p t owed cause outcome) h right.0 refl (used h right.2 q) is
-  used (Happening.Asked n p t owed fits question ∷ h) right q held is =
-      used_by_link q held (Happening.Asked n p t owed fits question) h right.0 refl (used h right.2 q) is
-  used (Happening.Given infos t ∷ h) right q held is =
-      used_by_link q held (Happening.Given infos t) h right.0 refl (used h right.2 q) is
-  used (Happening.Barred p t taken ∷ h) right q held is =
-      used_by_link q held (Happening.Barred p t taken) h right.0 refl (used h right.2 q) is
-  used (Happening.Parted p t ∷ h) right q held is =
-      used_by_link q held (Happening.Parted p t) h right.0 refl (used h right.2 q) is
-  used (Happening.Passed t ∷ h) right q held is =
-      used_by_link q held (Happening.Passed t) h right.0 refl (used h right.2 q) is
-  used (Happening.Taken action ∷ h) right q held is =
-      used_by_link q held (Happening.Taken action) h right.0 refl (used h right.2 q) is
+      used_begun q held (Happening.Dialed n p t draw word ingress) n p (dial_with n t) h right.0
+      (used_dial n p t draw word ingress h right.2 right.0.number) refl (link_dials (s b) q p n t draw word ingress h) (used h right.2 q) is
+  used (e ∷ h) right q held is = used_by_link q held e h right.0 refl (used h right.2 q) is
 
   -- so the number of a stream that is there is no link's
   pub unused : (h : List (Happening C S)) → AreRight b h → (n : ℕ) → is_some (stream_at n h) ≡ true →

@@ -14,11 +14,11 @@ use Rattle.p2p_driver.specs.declared.links.Phase.TheVariants as phase
 use Rattle.p2p_driver.specs.declared.links.Waiting.{Waiting}
 use Rattle.p2p_driver.specs.Frames.{Cause, Outcome, IsWaiting, IsOutcome}
 use Rattle.p2p_driver.specs.Happenings.{Happening, calls_of, opened_by, ends_by, heard_as, said_with}
-use Rattle.p2p_driver.specs.Links.{link_of, link_with, dial_with, closed, opened, hearing, asking, saying, writing, unless_closing}
+use Rattle.p2p_driver.specs.Links.{link_of, link_with, link_as, taken_way, dial_with, closed, opened, hearing, asking, saying, writing, unless_closing}
 use Rattle.p2p_driver.specs.Questions.{asked_after}
 use Rattle.p2p_driver.specs.declared.questions.Question.{Question}
 use Rattle.p2p_driver.specs.Drivers.{DriverView, Base, DriverStandsAt, AreRight, IsHeard, link, standing}
-use Rattle.p2p_driver.proofs.LinkHistory.{touch_by, touched, closing_if, reaching_if, nothing_kept, link_after, link_stays, link_later, link_opens, link_dials, link_hears, link_asks, link_writes, link_speaks, ended_link, closed_link}
+use Rattle.p2p_driver.proofs.LinkHistory.{touch_by, touched, closing_if, reaching_if, nothing_kept, link_after, link_stays, link_later, link_opens, link_adopts, link_dials, link_hears, link_asks, link_writes, link_speaks, ended_link, closed_link}
 
 none_waits : (w : Waiting) → ¬ (None ≡ Some w)
 none_waits w is = cc
@@ -170,30 +170,24 @@ module _ {C S : Type 0} (b : Base C S) where
 
     may_wait : (h : List (Happening C S)) → AreRight b h → (p : C) → MayWait p (link b p h)
     may_wait [] right p = of_none p
-    may_wait (Happening.Arrived n origin t space ∷ h) right p = let e : Happening C S = Happening.Arrived n origin t space in
-        stays e h p (link_stays d p e h refl refl refl) (may_wait h right.2 p)
-    may_wait (Happening.Claimed n q origin t ∷ h) right p = let e : Happening C S = Happening.Claimed n q origin t in
-        stays e h p (link_stays d p e h refl refl refl) (may_wait h right.2 p)
-    may_wait (Happening.Refused n q t why ∷ h) right p = let e : Happening C S = Happening.Refused n q t why in
-        stays e h p (link_stays d p e h refl refl refl) (may_wait h right.2 p)
     may_wait (Happening.Proved n q t draw ∷ h) right p =
         subst (MayWait p) (sym (link_opens d p q n t draw h)) (go (same d q p) (may_wait h right.2 p))
       where
         go : (x : Bool) → MayWait p (link b p h) → MayWait p (if x then Some (link_with n t) else link b p h)
         go true may = without p (link_with n t) refl
         go false may = may
-    may_wait (Happening.Unproved n q t why ∷ h) right p = let e : Happening C S = Happening.Unproved n q t why in
-        stays e h p (link_stays d p e h refl refl refl) (may_wait h right.2 p)
-    may_wait (Happening.Left n t ∷ h) right p = let e : Happening C S = Happening.Left n t in
-        stays e h p (link_stays d p e h refl refl refl) (may_wait h right.2 p)
+    may_wait (Happening.Adopted n q t outbound ∷ h) right p =
+        subst (MayWait p) (sym (link_adopts d p q n t outbound h)) (go (same d q p) (may_wait h right.2 p))
+      where
+        go : (x : Bool) → MayWait p (link b p h) → MayWait p (if x then Some (link_as (taken_way outbound) n t) else link b p h)
+        go true may = without p (link_as (taken_way outbound) n t) refl
+        go false may = may
     may_wait (Happening.Dialed n q t draw word ingress ∷ h) right p =
         subst (MayWait p) (sym (link_dials d p q n t draw word ingress h)) (go (same d q p) (may_wait h right.2 p))
       where
         go : (x : Bool) → MayWait p (link b p h) → MayWait p (if x then Some (dial_with n t) else link b p h)
         go true may = without p (dial_with n t) refl
         go false may = may
-    may_wait (Happening.Undialed t ∷ h) right p = let e : Happening C S = Happening.Undialed t in
-        stays e h p (link_stays d p e h refl refl refl) (may_wait h right.2 p)
     may_wait (Happening.Reached n q t ∷ h) right p = subst (MayWait p) (sym (link_later d p (Happening.Reached n q t) h refl))
         (reaches p (same d q p) t (link b p h) (may_wait h right.2 p))
     may_wait (Happening.Mistaken n q t ∷ h) right p =
@@ -201,12 +195,11 @@ module _ {C S : Type 0} (b : Base C S) where
     may_wait (Happening.Ended n q t direction ∷ h) right p = subst (MayWait p)
         (sym (link_later d p (Happening.Ended n q t direction) h refl ∙ ended_link (same d q p) (link b p h)))
         (ended p (same d q p) (link b p h) (may_wait h right.2 p))
+    may_wait (Happening.Failed n q t direction ∷ h) right p = subst (MayWait p)
+        (sym (link_later d p (Happening.Failed n q t direction) h refl ∙ ended_link (same d q p) (link b p h)))
+        (ended p (same d q p) (link b p h) (may_wait h right.2 p))
     may_wait (Happening.SetCame t index primary secondary torn ∷ h) right p =
         closed_by (Happening.SetCame t index primary secondary torn) h p (has_key d.cmp torn p) refl refl refl (may_wait h right.2 p)
-    may_wait (Happening.StaleSetCame index primary secondary ∷ h) right p = let e : Happening C S = Happening.StaleSetCame index primary secondary in
-        stays e h p (link_stays d p e h refl refl refl) (may_wait h right.2 p)
-    may_wait (Happening.StreamLate n t ∷ h) right p = let e : Happening C S = Happening.StreamLate n t in
-        stays e h p (link_stays d p e h refl refl refl) (may_wait h right.2 p)
     may_wait (Happening.LinkLate n q t ∷ h) right p =
         closed_by (Happening.LinkLate n q t) h p (same d q p) refl refl refl (may_wait h right.2 p)
     may_wait (Happening.Heard n q t owed c outcome ∷ h) right p = subst (MayWait p) (sym (link_hears d p q n t owed c outcome h))
@@ -217,16 +210,11 @@ module _ {C S : Type 0} (b : Base C S) where
         (writes p (same d q p) (link b p h) (may_wait h right.2 p))
     may_wait (Happening.Spoken n q t place ∷ h) right p = subst (MayWait p) (sym (link_speaks d p q n t place h))
         (speaks p (same d q p) t (link b p h) (may_wait h right.2 p))
-    may_wait (Happening.Given infos t ∷ h) right p = let e : Happening C S = Happening.Given infos t in
-        stays e h p (link_stays d p e h refl refl refl) (may_wait h right.2 p)
     may_wait (Happening.Barred q t taken ∷ h) right p =
         closed_by (Happening.Barred q t taken) h p (same d q p) refl refl refl (may_wait h right.2 p)
     may_wait (Happening.Parted q t ∷ h) right p =
         closed_by (Happening.Parted q t) h p (same d q p) refl refl refl (may_wait h right.2 p)
-    may_wait (Happening.Passed t ∷ h) right p = let e : Happening C S = Happening.Passed t in
-        stays e h p (link_stays d p e h refl refl refl) (may_wait h right.2 p)
-    may_wait (Happening.Taken action ∷ h) right p = let e : Happening C S = Happening.Taken action in
-        stays e h p (link_stays d p e h refl refl refl) (may_wait h right.2 p)
+    may_wait (e ∷ h) right p = stays e h p (link_stays d p e h refl refl refl) (may_wait h right.2 p)
 
     pub what_waits : (h : List (Happening C S)) → AreRight b h → (p : C) (held : Held) → link b p h ≡ Some held →
         (w : Waiting) → held.waiting ≡ Some w → IsWaiting d.cmp b.wire (standing b (calls_of h)).limits (standing b (calls_of h)).judge held.phase p w

@@ -1,5 +1,5 @@
 -- Drivers: what is seen of one, what may be done, and how it stands after what it did.
-use Rattle.std.specs.Prelude.{ℕ, ◌≡◌, ◌+◌, ◌-◌, ◌≤◌, ◌<◌, ◌*◌, ◌/◌, ◌%◌, ◌^◌, ◌&&◌, ◌⊎◌, max}
+use Rattle.std.specs.Prelude.{ℕ, ◌≡◌, ◌+◌, ◌-◌, ◌≤◌, ◌<◌, ◌*◌, ◌/◌, ◌%◌, ◌^◌, ◌&&◌, ◌||◌, ◌⊎◌, max}
 use Rattle.std.specs.Prelude.{not, nat_lt, Bool, true, false, Result, Ok, Err}
 use Rattle.std.specs.Prelude.{List, [], ◌∷◌, ◌++◌, length, find, Option, Some, None, is_some}
 use Rattle.std.specs.Prelude.{option_map}
@@ -20,7 +20,7 @@ use Rattle.p2p_discovery.specs.declared.types.ingress.Ingress.{Ingress}
 use Rattle.p2p_tracker.specs.Calls.Call.{Track, Dial}
 use Rattle.p2p_tracker.specs.Lists.{Somebody}
 use Rattle.p2p_tracker.specs.Answers.{IsTrackAnswer, may_listen_at, was_taken, was_granted}
-use Rattle.p2p_tracker.specs.Answers.{is_dialable, held_ingress}
+use Rattle.p2p_tracker.specs.Answers.{is_dialable, held_ingress, is_eligible_at}
 use Rattle.p2p_directory.specs.Run.{event_of, world_after}
 use Rattle.p2p_directory.specs.Nodes.{NodeView, Made, NodeStandsAt, made_of, standing_in}
 use Rattle.p2p_directory.specs.Received.{Wire, Standing}
@@ -32,6 +32,7 @@ use Rattle.p2p_driver.specs.Arrivals.{has_number, is_unclaimed, deadline_of, roo
 use Rattle.p2p_driver.specs.Frames.{Cause, Outcome, IsOutcome, IsAsDialer, owed_after}
 use Rattle.p2p_driver.specs.Links.{link_of, count_of, needs, is_late, is_to_ask, is_open, has_room}
 use Rattle.p2p_driver.specs.Links.{is_dialing, is_dialer, is_timed}
+use Rattle.p2p_driver.specs.Grants.{grant_of, kept_grant, is_cooled, is_cooling, is_unfit}
 use Rattle.p2p_driver.specs.Meters.{MetersView}
 use Rattle.p2p_driver.specs.Questions.{owed_with, IsQuestion}
 use Rattle.p2p_driver.specs.Reading.{AreMetered, IsPaced, rate_at, said_at, frames_read}
@@ -39,7 +40,7 @@ use Rattle.p2p_driver.specs.Steps.{is_claim_of, no_proof_of, IsBlock, IsDone, Is
 use Rattle.p2p_driver.specs.Happenings.{Happening, latest_at, calls_of, next_at, stream_at}
 use Rattle.p2p_driver.specs.Happenings.{answered_in, is_proved, is_dialed, is_reached, is_ended}
 use Rattle.p2p_driver.specs.Happenings.{inbound_count, dial_count, outbound_count, link_count}
-use Rattle.p2p_driver.specs.Happenings.{link_at, retry_at}
+use Rattle.p2p_driver.specs.Happenings.{link_at, grant_at, kept_at, retry_at, is_taken_over}
 use Rattle.p2p_driver.specs.Happenings.{said, said_as, taken, time_by}
 use Rattle.p2p_driver.specs.declared.actions.Action.{Action}
 use Rattle.p2p_driver.specs.declared.actions.Why.{Why}
@@ -48,6 +49,7 @@ use Rattle.p2p_driver.specs.declared.arrivals.Room.{Room}
 use Rattle.p2p_driver.specs.declared.arrivals.Room.TheVariants as room
 use Rattle.p2p_driver.specs.declared.links.Direction.{Direction}
 use Rattle.p2p_driver.specs.declared.links.Direction.TheVariants.{Inbound, Dialing, Outbound}
+use Rattle.p2p_driver.specs.declared.links.Direction.TheVariants.{TakenOver}
 use Rattle.p2p_driver.specs.declared.links.Held.{Held}
 use Rattle.p2p_driver.specs.declared.origin.Origin.{Origin}
 use Rattle.p2p_driver.specs.declared.pace.Pace.{Pace}
@@ -55,16 +57,16 @@ use Rattle.p2p_driver.specs.declared.questions.Question.{Question}
 use Rattle.p2p_driver.specs.declared.next_dial.NextDial.{NextDial}
 
 -- WHAT IS SEEN of a driver: its node, settings, own greeting and cooldown, from when on it looks
--- for somebody to dial, and from when on again since memory was refused for a dial, the latest
--- time, the number of the next stream, the streams that aren't proved, the claims that were
--- answered, the frames that were read of links, the links of peers, and the actions that the host
--- hasn't taken
+-- for somebody to dial, and from when on again since memory was refused for a dial, with the grants
+-- of dials on which the peer hasn't greeted, the latest time, the number of the next stream, the
+-- streams that aren't proved, the claims that were answered, the frames that were read of links,
+-- the links of peers, and the actions that the host hasn't taken
 pub record DriverView (C S : Type 0) : Type 0 where
   pub node : NodeView C S
   pub pace : Pace
   pub greeting : List ℕ
   pub cooldown : ℕ
-  pub next_dial : NextDial
+  pub next_dial : NextDial C
   pub latest : ℕ
   pub next : ℕ
   pub arrivals : List (Arrival C)
@@ -74,7 +76,7 @@ pub record DriverView (C S : Type 0) : Type 0 where
   pub actions : List (Action C)
 
 -- .. of its parts: of the node all but slots, of the claims all but the room for more
-abbrev pub seen : {C S : Type 0} → NodeView C S → Pace → List ℕ → ℕ → NextDial → ℕ → ℕ →
+abbrev pub seen : {C S : Type 0} → NodeView C S → Pace → List ℕ → ℕ → NextDial C → ℕ → ℕ →
     List (Arrival C) → AnswersView → List (ℕ × MetersView) → List (C × Held) → List (Action C) →
     DriverView C S
 seen node pace greeting cooldown dial latest next arrivals answers reads links actions = record {
@@ -148,6 +150,8 @@ pub record AreCounted {C S : Type 0} (h : List (Happening C S)) (links : List (C
   pub dialing : count_of Dialing links
       + (count_by is_reached h + count_by (is_ended Dialing) h) ≡ count_by is_dialed h
   pub outbound : count_of Outbound links + count_by (is_ended Outbound) h ≡ count_by is_reached h
+  pub taken_over :
+      count_of TakenOver links + count_by (is_ended TakenOver) h ≡ count_by is_taken_over h
 
 -- the jitter of a grant by a random word: at most twice the half of the cooldown
 abbrev pub jitter_of : ℕ → ℕ → ℕ
@@ -171,10 +175,39 @@ module _ {C S : Type 0} (b : Base C S) where
   has_dial_place h = nat_lt (link_count h) b.pace.links
       && (nat_lt (outbound_count h) b.pace.outbound && nat_lt (dial_count h) b.pace.dials)
 
-  -- p may come in at t: there is a place, it has no link, and a listen would be granted
-  abbrev pub may_come : List (Happening C S) → C → ℕ → Bool
-  may_come h p t = has_place h && (not (is_some (link p h))
+  -- the grant that is kept of p since a dial of it came to nothing, if one is: when it was made
+  abbrev pub kept : C → List (Happening C S) → Option Duration
+  kept p h = kept_at s p h
+
+  -- p may be connected at t: it's entitled, and isn't blocked
+  abbrev pub is_eligible : List (Happening C S) → C → ℕ → Bool
+  is_eligible h p t = is_eligible_at s (world_after s (calls_of h)) p t
+
+  -- the dial of p that ends at t came to nothing, and its grant is kept: p hasn't greeted on it,
+  -- the cooldown of its grant isn't over, and p may be connected
+  abbrev pub stays : List (Happening C S) → C → ℕ → Bool
+  stays h p t = is_cooling s.cooldown t (grant_at s p h) && is_eligible h p t
+
+  -- p may be reserved for its stream at t: there is a place, it has no link, and a listen would be
+  -- granted
+  abbrev pub may_begin : List (Happening C S) → C → ℕ → Bool
+  may_begin h p t = has_place h && (not (is_some (link p h))
       && may_listen_at s (world_after s (calls_of h)) p t)
+
+  -- another outbound link has a place
+  abbrev pub has_outbound_place : List (Happening C S) → Bool
+  has_outbound_place h = nat_lt (outbound_count h) b.pace.outbound
+
+  -- p may come in at t by the grant that is kept of it: there is a place, outbound or inbound, and
+  -- it may be connected
+  abbrev pub may_adopt : List (Happening C S) → C → ℕ → Bool
+  may_adopt h p t = nat_lt (link_count h) b.pace.links
+      && ((has_outbound_place h || nat_lt (inbound_count h) b.pace.inbound)
+      && (is_some (kept p h) && is_eligible h p t))
+
+  -- p may come in at t: by a grant that is kept of it, or else by one of its own
+  abbrev pub may_come : List (Happening C S) → C → ℕ → Bool
+  may_come h p t = may_adopt h p t || may_begin h p t
 
   -- stream n hasn't said whose it is
   abbrev pub IsUnclaimed : List (Happening C S) → ℕ → Type 0
@@ -280,9 +313,11 @@ module _ {C S : Type 0} (b : Base C S) where
       × MayAnswer b.pace (as_nanos t) origin.0 (answered_in h)
   IsRight h (Happening.Refused n p t why) = IsUnclaimed h n × IsRefusal h n p (as_nanos t) why
   IsRight h (Happening.Proved n p t draw) = (is_claimed h n p ≡ true)
-      × (may_come h p (as_nanos t) ≡ true)
+      × (may_begin h p (as_nanos t) ≡ true)
   IsRight h (Happening.Unproved n p t why) = (is_some (stream_at n h) ≡ true)
       × (no_proof h n p (as_nanos t) ≡ Some why)
+  IsRight h (Happening.Adopted n p t outbound) = (is_claimed h n p ≡ true)
+      × (may_adopt h p (as_nanos t) ≡ true) × (outbound ≡ has_outbound_place h)
   IsRight h (Happening.Left n t) = is_some (stream_at n h) ≡ true
   IsRight h (Happening.Dialed n p t draw word ingress) =
       IsDialed h n p (as_nanos t) (as_nanos draw) word ingress
@@ -290,6 +325,12 @@ module _ {C S : Type 0} (b : Base C S) where
   IsRight h (Happening.Reached n p t) = IsDialOf h n p
   IsRight h (Happening.Mistaken n p t) = IsDialOf h n p
   IsRight h (Happening.Ended n p t direction) = IsLinkOf h n p direction
+      × (stays h p (as_nanos t) ≡ false)
+  IsRight h (Happening.Failed n p t direction) = IsLinkOf h n p direction
+      × (stays h p (as_nanos t) ≡ true)
+  IsRight h (Happening.Released p t) = (is_some (kept p h) ≡ true)
+      × ((is_cooled s.cooldown (as_nanos t) (kept p h) ≡ true)
+      ⊎ (is_eligible h p (as_nanos t) ≡ false))
   IsRight h (Happening.SetCame t index primary secondary torn) =
       let c = Track index primary secondary in
       (length primary ≤ b.made.limits.max_bit_vec)
@@ -340,6 +381,7 @@ module _ {C S : Type 0} (b : Base C S) where
     pub answers : AreKept b.pace (latest_at h) (answered_in h) v.answers
     pub reads : AreMetered b.pace (latest_at h) h v.reads
     pub links : (p : C) → link_of s.cmp v.links p ≡ link p h
+    pub grants : (p : C) → grant_of s.cmp v.next_dial.grants p ≡ grant_at s p h
     pub counts : AreCounted h v.links
     pub quiet : IsQuietIn s (world_after s (calls_of h)) (latest_at h)
         (option_map as_nanos v.next_dial.from)
@@ -348,6 +390,22 @@ module _ {C S : Type 0} (b : Base C S) where
     pub right : AreRight h
 
 -- EACH CALL, whatever the driver was made from, and whatever it did before
+
+module _ {C S : Type 0} where
+  -- a grant is kept of nobody who may not be connected
+  abbrev pub NoneUnfit : (C → C → Ordering) → DriverView C S → Type 0
+  NoneUnfit cmp v = (p : C) → is_unfit cmp v.node.directory v.latest p
+      (kept_grant cmp v.links v.next_dial.grants p) ≡ false
+
+  -- by it the grant that was kept of a peer is given up at t
+  abbrev pub IsFreedAt : Duration → Happening C S → Type 0
+  IsFreedAt t (Happening.Released p at) = at ≡ t
+  IsFreedAt t _ = ⊥
+
+  -- .. by each of them
+  abbrev pub AreFreedAt : Duration → List (Happening C S) → Type 0
+  AreFreedAt t [] = Unit {0}
+  AreFreedAt t (e ∷ es) = IsFreedAt t e × AreFreedAt t es
 
 module _ {C S : Type 0} (cmp : C → C → Ordering) (wire : Wire C S) where
   -- it stands somewhere: there are a setup, settings and a history
@@ -381,6 +439,23 @@ module _ {C S : Type 0} (cmp : C → C → Ordering) (wire : Wire C S) where
     pub few : length v.actions < 4 * v.pace.arrivals
     pub does : DoesAt now (λ t. Happening.Arrived n from t space) v v2
 
+  -- wherever it stood, it stands after these happenings too, the newest first
+  abbrev pub DoesAll : List (Happening C S) → DriverView C S → DriverView C S → Type 0
+  DoesAll es v v2 = (given : Setup C S) (pace : Pace) (h : List (Happening C S)) →
+      DriverStandsAt (base_of cmp wire given pace) h v →
+      DriverStandsAt (base_of cmp wire given pace) (es ++ h) v2
+
+  -- one more happening at the later of the latest time and this one, by which peers may be such
+  -- that may not be connected: then the grants that are kept of these are given up
+  pub record DoesAndFrees (now : ℕ) (e : Duration → Happening C S) (v v2 : DriverView C S) :
+      Type 0 where
+    pub time : Duration
+    pub time_is : as_nanos time ≡ max v.latest now
+    pub freed : List (Happening C S)
+    pub are_freed : AreFreedAt time freed
+    pub does : DoesAll (freed ++ e time ∷ []) v v2
+    pub none : NoneUnfit cmp v2
+
   -- a set would be accepted
   abbrev pub MayTrack : ℕ → List C → List C → DriverView C S → Type 0
   MayTrack index primary secondary v = AtEachHistory v (λ b h.
@@ -389,7 +464,7 @@ module _ {C S : Type 0} (cmp : C → C → Ordering) (wire : Wire C S) where
   -- a set came that was accepted, and closes the links of the peers that it tears down
   abbrev pub TracksAt : ℕ → List C → List C → ℕ → DriverView C S → DriverView C S → Type 0
   TracksAt index primary secondary now v v2 = (torn : List C)
-      × DoesAt now (λ t. Happening.SetCame t index primary secondary torn) v v2
+      × DoesAndFrees now (λ t. Happening.SetCame t index primary secondary torn) v v2
 
 -- there is such a stream, and it hasn't said whose it is
 abbrev pub may_claim : {C : Type 0} → Option (Arrival C) → Bool
@@ -436,13 +511,15 @@ module _ {C S : Type 0} (cmp : C → C → Ordering) (wire : Wire C S) where
   DialProvedBy (Err e) n p now v v2 = (v2 ≡ v) × IsSomeAnd (link_of cmp v.links p)
       (λ held. (held.number ≡ n) × (is_dialing held ≡ true) × (is_timed held.phase ≡ true))
 
-  -- by whether there is such a stream, and what is answered: it is a link, with the word's jitter,
-  -- or it's closed; memory is wanted only for a link
+  -- by whether there is such a stream, and what is answered: it is a link, with the word's jitter
+  -- if its peer is reserved for it, or it's closed; memory is wanted only for a link
   abbrev pub ProvedBy : Bool → Result Bool AllocError → ℕ → C → ℕ → ℕ → DriverView C S →
       DriverView C S → Type 0
-  ProvedBy true (Ok true) n p word now v v2 = (draw : Duration)
+  ProvedBy true (Ok true) n p word now v v2 = ((draw : Duration)
       × (as_nanos draw ≡ jitter_of v.cooldown word)
-      × DoesAt cmp wire now (λ t. Happening.Proved n p t draw) v v2
+      × DoesAt cmp wire now (λ t. Happening.Proved n p t draw) v v2)
+      ⊎ ((outbound : Bool)
+      × DoesAt cmp wire now (λ t. Happening.Adopted n p t outbound) v v2)
   ProvedBy true (Ok false) n p word now v v2 = (why : Why)
       × DoesAt cmp wire now (λ t. Happening.Unproved n p t why) v v2
   ProvedBy true (Err e) n p word now v v2 = (v2 ≡ v) × AtEachHistory cmp wire v
@@ -455,13 +532,18 @@ module _ {C S : Type 0} (cmp : C → C → Ordering) (wire : Wire C S) where
   AnswersProof n p word now answer v v2 =
       ProvedBy (is_some (find (has_number n) v.arrivals)) answer n p word now v v2
 
+  -- a link of p ended at t: p is released, or its grant is kept
+  abbrev pub EndsAt : ℕ → C → ℕ → Held → DriverView C S → DriverView C S → Type 0
+  EndsAt n p now held v v2 =
+      DoesAt cmp wire now (λ t. Happening.Ended n p t held.direction) v v2
+      ⊎ DoesAt cmp wire now (λ t. Happening.Failed n p t held.direction) v v2
+
   -- by whose link has the number, if it is one's, whether a stream has, and what is answered
   abbrev pub EndedBy : Bool → Bool → ℕ → ℕ → DriverView C S → DriverView C S → Type 0
   EndedBy true true n now v v2 = DoesAt cmp wire now (λ t. Happening.Left n t) v v2
   EndedBy true false n now v v2 = ⊥
   EndedBy false true n now v v2 = (p : C) × IsSomeAnd (link_of cmp v.links p)
-      (λ held. (held.number ≡ n)
-      × DoesAt cmp wire now (λ t. Happening.Ended n p t held.direction) v v2)
+      (λ held. (held.number ≡ n) × EndsAt n p now held v v2)
   EndedBy false false n now v v2 = (v2 ≡ v)
       × ((p : C) (held : Held) → link_of cmp v.links p ≡ Some held → held.number ≡ n → ⊥)
 
@@ -474,7 +556,7 @@ module _ {C S : Type 0} (cmp : C → C → Ordering) (wire : Wire C S) where
   abbrev pub AnswersBlock : C → ℕ → Result Bool AllocError → DriverView C S → DriverView C S →
       Type 0
   AnswersBlock p now (Ok taken) v v2 =
-      DoesAt cmp wire now (λ t. Happening.Barred p t taken) v v2
+      DoesAndFrees cmp wire now (λ t. Happening.Barred p t taken) v v2
   AnswersBlock p now (Err e) v v2 = (v2 ≡ v) × AtEachHistory cmp wire v
       (λ b h. IsBlock b.made (calls_of h) p (max v.latest now) true)
 

@@ -16,7 +16,8 @@ use Rattle.p2p_tracker.specs.History.{same, last_with}
 use Rattle.p2p_driver.specs.Questions.{asked_after, counted}
 use Rattle.p2p_driver.specs.Frames.{Cause, Outcome, waiting_by}
 use Rattle.p2p_driver.specs.Links.{closed, opened, hearing, allowing, saying, with_said}
-use Rattle.p2p_driver.specs.Links.{unless_closing, is_slow, is_way}
+use Rattle.p2p_driver.specs.Links.{unless_closing, is_slow, is_way, proved_way, taken_way}
+use Rattle.p2p_driver.specs.Grants.{unless_linked}
 use Rattle.p2p_driver.specs.Looked.{LookedView}
 use Rattle.p2p_discovery.specs.declared.discovery.Info.{Info}
 use Rattle.p2p_discovery.specs.declared.types.ingress.Ingress.{Ingress}
@@ -51,6 +52,9 @@ pub data Happening (C S : Type 0) : Type 0 where
   Proved : (n : ℕ) (p : C) (t draw : Duration) → Happening C S
   -- .. or it is closed for this
   Unproved : (n : ℕ) (p : C) (t : Duration) (why : Why) → Happening C S
+  -- stream n was proved at t to be p's, of whom a grant is kept: p stays reserved, and the stream
+  -- is a link of p then, which has an outbound place or an inbound one
+  Adopted : (n : ℕ) (p : C) (t : Duration) (outbound : Bool) → Happening C S
   -- stream n ended before it was proved
   Left : (n : ℕ) (t : Duration) → Happening C S
   -- at t a dial of p began, at an address, and p is reserved: link n of p, chosen by a random word
@@ -63,6 +67,10 @@ pub data Happening (C S : Type 0) : Type 0 where
   Mistaken : (n : ℕ) (p : C) (t : Duration) → Happening C S
   -- link n of p ended, which came about so, and p is released
   Ended : (n : ℕ) (p : C) (t : Duration) (direction : Direction) → Happening C S
+  -- .. on which p hasn't greeted, and p stays reserved: the grant of that dial is kept
+  Failed : (n : ℕ) (p : C) (t : Duration) (direction : Direction) → Happening C S
+  -- the grant that was kept of p is given up at t, and p is released
+  Released : (p : C) (t : Duration) → Happening C S
   -- a set came at t that was accepted, and tears down these peers
   SetCame : (t : Duration) (index : ℕ) (primary secondary torn : List C) → Happening C S
   -- a set came that was not accepted
@@ -108,12 +116,15 @@ module _ {C S : Type 0} where
   time_by (Happening.Refused n p t why) = Some t
   time_by (Happening.Proved n p t draw) = Some t
   time_by (Happening.Unproved n p t why) = Some t
+  time_by (Happening.Adopted n p t outbound) = Some t
   time_by (Happening.Left n t) = Some t
   time_by (Happening.Dialed n p t draw word ingress) = Some t
   time_by (Happening.Undialed t) = Some t
   time_by (Happening.Reached n p t) = Some t
   time_by (Happening.Mistaken n p t) = Some t
   time_by (Happening.Ended n p t direction) = Some t
+  time_by (Happening.Failed n p t direction) = Some t
+  time_by (Happening.Released p t) = Some t
   time_by (Happening.SetCame t index primary secondary torn) = Some t
   time_by (Happening.StaleSetCame index primary secondary) = None
   time_by (Happening.StreamLate n t) = Some t
@@ -152,6 +163,7 @@ module _ {C S : Type 0} where
   calls_by (Happening.Dialed n p t draw word ingress) =
       Dial p (as_nanos t) (as_nanos draw) ∷ []
   calls_by (Happening.Ended n p t direction) = Release p ∷ []
+  calls_by (Happening.Released p t) = Release p ∷ []
   calls_by (Happening.SetCame t index primary secondary torn) = Track index primary secondary ∷ []
   calls_by (Happening.StaleSetCame index primary secondary) = Track index primary secondary ∷ []
   calls_by (Happening.Heard n p t owed cause outcome) = calls_for p t outcome
@@ -187,6 +199,7 @@ module _ {C S : Type 0} where
   leaves_by n (Happening.Refused m p t why) = m == n
   leaves_by n (Happening.Proved m p t draw) = m == n
   leaves_by n (Happening.Unproved m p t why) = m == n
+  leaves_by n (Happening.Adopted m p t outbound) = m == n
   leaves_by n (Happening.Left m t) = m == n
   leaves_by n (Happening.StreamLate m t) = m == n
   leaves_by n _ = false
@@ -227,10 +240,16 @@ module _ {C S : Type 0} where
 
   -- HOW MANY LINKS THERE ARE
 
-  -- it is a stream that came in and was proved
+  -- it is a stream that came in and was proved, and has an inbound place
   abbrev pub is_proved : Happening C S → Bool
   is_proved (Happening.Proved n p t draw) = true
+  is_proved (Happening.Adopted n p t outbound) = not outbound
   is_proved _ = false
+
+  -- .. that has an outbound one
+  abbrev pub is_taken_over : Happening C S → Bool
+  is_taken_over (Happening.Adopted n p t outbound) = outbound
+  is_taken_over _ = false
 
   -- .. a dial that began
   abbrev pub is_dialed : Happening C S → Bool
@@ -245,6 +264,7 @@ module _ {C S : Type 0} where
   -- .. a link that ended, and that came about so
   abbrev pub is_ended : Direction → Happening C S → Bool
   is_ended direction (Happening.Ended n p t other) = is_way direction other
+  is_ended direction (Happening.Failed n p t other) = is_way direction other
   is_ended direction _ = false
 
   -- inbound links: as many as were proved, less those that ended
@@ -256,13 +276,11 @@ module _ {C S : Type 0} where
   dial_count h =
       count_by is_dialed h - (count_by is_reached h + count_by (is_ended way.Dialing) h)
 
-  -- .. that were proved: as many as were, less those that ended
-  abbrev pub dialer_count : List (Happening C S) → ℕ
-  dialer_count h = count_by is_reached h - count_by (is_ended way.Outbound) h
-
-  -- outbound links, dials under way among them
+  -- outbound places: as many as dials and streams that came in took, less those of links that ended
   abbrev pub outbound_count : List (Happening C S) → ℕ
-  outbound_count h = dial_count h + dialer_count h
+  outbound_count h = (count_by is_dialed h + count_by is_taken_over h)
+      - (count_by (is_ended way.Dialing) h + count_by (is_ended way.Outbound) h
+      + count_by (is_ended way.TakenOver) h)
 
   -- .. and all links
   abbrev pub link_count : List (Happening C S) → ℕ
@@ -352,11 +370,14 @@ newest_tried (Some (t, Some question)) = question.newest
 module _ {C S : Type 0} (s : Settings C S) where
   -- LINKS, of which a peer has one at most
 
-  -- by it a link of p began: its number, whether it is a dial, and when
-  abbrev pub opened_by : C → Happening C S → Option (ℕ × Bool × Duration)
-  opened_by p (Happening.Proved n q t draw) = if same s q p then Some (n, false, t) else None
+  -- by it a link of p began: its number, how it came about, and when
+  abbrev pub opened_by : C → Happening C S → Option (ℕ × Direction × Duration)
+  opened_by p (Happening.Proved n q t draw) =
+      if same s q p then Some (n, way.Inbound, t) else None
+  opened_by p (Happening.Adopted n q t outbound) =
+      if same s q p then Some (n, taken_way outbound, t) else None
   opened_by p (Happening.Dialed n q t draw word ingress) =
-      if same s q p then Some (n, true, t) else None
+      if same s q p then Some (n, way.Dialing, t) else None
   opened_by p _ = None
 
   -- by it the stream of the dial of p was proved: when
@@ -367,6 +388,7 @@ module _ {C S : Type 0} (s : Settings C S) where
   -- by it the link of p ended
   abbrev pub ends_by : C → Happening C S → Bool
   ends_by p (Happening.Ended n q t direction) = same s q p
+  ends_by p (Happening.Failed n q t direction) = same s q p
   ends_by p _ = false
 
   -- by it the link of p was closed
@@ -462,9 +484,9 @@ module _ {C S : Type 0} (s : Settings C S) where
   }
 
   -- when the own greeting is said on a link as it begins: on that of a stream that came in at once
-  abbrev pub first_said : Bool → Duration → List Duration
-  first_said true t = []
-  first_said false t = t ∷ []
+  abbrev pub first_said : Direction → Duration → List Duration
+  first_said way.Dialing t = []
+  first_said direction t = t ∷ []
 
   -- when the frames were said on the link of p that aren't written, the oldest first, by what was
   -- said when its link began, and what was done since
@@ -473,25 +495,22 @@ module _ {C S : Type 0} (s : Settings C S) where
   unwritten_in p first (e ∷ since) = with_said (says_on p e)
       (if writes_by p e then drop 1 (unwritten_in p first since) else unwritten_in p first since)
 
-  -- how the link of p came about, by whether it is a dial, and whether that was proved
-  abbrev pub way_of : Bool → Bool → Direction
-  way_of false proved = way.Inbound
-  way_of true false = way.Dialing
-  way_of true true = way.Outbound
+  -- how the link of p came about, by how it began, and whether the stream of a dial was proved
+  abbrev pub way_of : Direction → Bool → Direction
+  way_of direction proved = if proved then proved_way direction else direction
 
   -- when its key was proved, or else when it began
   abbrev pub proved_at : Duration → Option (Duration × List (Happening C S)) → Duration
   proved_at began None = began
   proved_at began (Some found) = found.0
 
-  -- what is kept of the link of p, by its number, whether it is a dial, when it began, and what was
-  -- done since
-  abbrev pub kept_of : C → ℕ → Bool → Duration → List (Happening C S) → Held
-  kept_of p n dial t since =
+  -- what is kept of the link of p, by its number, how it began, when, and what was done since
+  abbrev pub kept_of : C → ℕ → Direction → Duration → List (Happening C S) → Held
+  kept_of p n began t since =
       let phase = phase_of (list_any (closes_by p) since) (list_any (greets_by p) since) in
       let last = last_heard t (last_with (heard_by p) since) in record {
         number = n;
-        direction = way_of dial (is_some (last_with (reached_by p) since));
+        direction = way_of began (is_some (last_with (reached_by p) since));
         phase = phase;
         since = proved_at t (last_with (reached_by p) since);
         heard = last.0;
@@ -499,11 +518,12 @@ module _ {C S : Type 0} (s : Settings C S) where
         waiting = unless_closing phase last.1;
         asked = asked_in p t since;
         looked = unless_closing phase (last_looked (last_with (looks_by p) since));
-        unwritten = unwritten_in p (first_said dial t) since;
+        unwritten = unwritten_in p (first_said began t) since;
       }
 
-  -- the link of p, by its number, whether it is a dial, when it began, and what was done since
-  abbrev pub link_since : C → Option ((ℕ × Bool × Duration) × List (Happening C S)) → Option Held
+  -- the link of p, by its number, how it began, when, and what was done since
+  abbrev pub link_since : C → Option ((ℕ × Direction × Duration) × List (Happening C S)) →
+      Option Held
   link_since p None = None
   link_since p (Some found) = if list_any (ends_by p) found.1 then None
       else Some (kept_of p found.0.0 found.0.1 found.0.2 found.1)
@@ -511,6 +531,33 @@ module _ {C S : Type 0} (s : Settings C S) where
   -- the link of p: the one that began last, unless it ended
   abbrev pub link_at : C → List (Happening C S) → Option Held
   link_at p h = link_since p (last_with (opened_by p) h)
+
+  -- GRANTS of own dials on which the peer hasn't greeted
+
+  -- by it a dial of p was granted: when
+  abbrev pub granted_by : C → Happening C S → Option Duration
+  granted_by p (Happening.Dialed n q t draw word ingress) = if same s q p then Some t else None
+  granted_by p _ = None
+
+  -- by it that grant is none of a dial any more: p greeted, was released, or came in by itself
+  abbrev pub spends_by : C → Happening C S → Bool
+  spends_by p (Happening.Adopted n q t outbound) = same s q p
+  spends_by p (Happening.Ended n q t direction) = same s q p
+  spends_by p (Happening.Released q t) = same s q p
+  spends_by p e = greets_by p e
+
+  -- the grant of a dial of p, by when it was made, and what was done since
+  abbrev pub grant_since : C → Option (Duration × List (Happening C S)) → Option Duration
+  grant_since p None = None
+  grant_since p (Some found) = if list_any (spends_by p) found.1 then None else Some found.0
+
+  -- .. if p hasn't greeted on it: when it was made
+  abbrev pub grant_at : C → List (Happening C S) → Option Duration
+  grant_at p h = grant_since p (last_with (granted_by p) h)
+
+  -- .. and it is kept, since that dial came to nothing: p has no link
+  abbrev pub kept_at : C → List (Happening C S) → Option Duration
+  kept_at p h = unless_linked (link_at p h) (grant_at p h)
 
 -- WHAT WAS SAID
 
@@ -595,10 +642,12 @@ module _ {C S : Type 0} (s : Settings C S) (greeting : List ℕ) where
   says_by h (Happening.Refused n p t why) = closing n why
   says_by h (Happening.Proved n p t draw) = sent n greeting
   says_by h (Happening.Unproved n p t why) = closing n why
+  says_by h (Happening.Adopted n p t outbound) = sent n greeting
   says_by h (Happening.Dialed n p t draw word ingress) = dialing n p ingress
   says_by h (Happening.Reached n p t) = sent n greeting
   says_by h (Happening.Mistaken n p t) = shut p why.WrongKey (link_at s p h)
   says_by h (Happening.Ended n p t direction) = parted p (link_at s p h)
+  says_by h (Happening.Failed n p t direction) = parted p (link_at s p h)
   says_by h (Happening.SetCame t index primary secondary torn) =
       shut_all s.cmp torn (λ p. link_at s p h)
   says_by h (Happening.StreamLate n t) = closing n why.Slow

@@ -79,6 +79,7 @@ abbrev pub first_of : Direction → Duration → List Duration
 first_of way.Inbound since = since ∷ []
 first_of way.Dialing since = []
 first_of way.Outbound since = []
+first_of way.TakenOver since = since ∷ []
 
 abbrev pub first_on : Held → List Duration
 first_on held = first_of held.direction held.since

@@ -12,6 +12,7 @@ pub mod Looked
 pub mod Heads
 pub mod Actions
 pub mod Links
+pub mod Grants
 pub mod Questions
 pub mod Frames
 pub mod Happenings

@@ -18,6 +18,7 @@ use Rattle.p2p_driver.specs.declared.links.Change.{Change}
 use Rattle.p2p_driver.specs.declared.links.Change.TheVariants as change
 use Rattle.p2p_driver.specs.declared.links.Direction.{Direction}
 use Rattle.p2p_driver.specs.declared.links.Direction.TheVariants.{Inbound, Dialing, Outbound}
+use Rattle.p2p_driver.specs.declared.links.Direction.TheVariants.{TakenOver}
 use Rattle.p2p_driver.specs.declared.links.Held.{Held}
 use Rattle.p2p_driver.specs.declared.links.Phase.{Phase}
 use Rattle.p2p_driver.specs.declared.links.Waiting.{Waiting}
@@ -49,6 +50,7 @@ abbrev pub is_way : Direction → Direction → Bool
 is_way Inbound Inbound = true
 is_way Dialing Dialing = true
 is_way Outbound Outbound = true
+is_way TakenOver TakenOver = true
 is_way _ _ = false
 
 -- it is a dial whose stream isn't proved
@@ -62,6 +64,11 @@ is_dialer h = is_way Outbound h.direction
 -- how many of these links came about so
 abbrev pub count_of : {C : Type 0} → Direction → List (C × Held) → ℕ
 count_of way links = count_by (λ h. is_way way h.direction) (values_of links)
+
+-- how the link of a stream came about that took over a grant, by whether it has an outbound place
+abbrev pub taken_way : Bool → Direction
+taken_way true = TakenOver
+taken_way false = Inbound
 
 -- a link that begins: its peer hasn't greeted, and nothing was heard of it, or asked. These frames
 -- are said on it at once
@@ -80,8 +87,12 @@ begun direction number since unwritten = record {
 }
 
 -- that of a stream that came in: the own greeting is said on it at once
+abbrev pub link_as : Direction → ℕ → Duration → Held
+link_as direction number since = begun direction number since (since ∷ [])
+
+-- .. if it has an inbound place
 abbrev pub link_with : ℕ → Duration → Held
-link_with number since = begun Inbound number since (since ∷ [])
+link_with number since = link_as Inbound number since
 
 -- .. of a dial
 abbrev pub dial_with : ℕ → Duration → Held
@@ -92,6 +103,7 @@ abbrev pub proved_way : Direction → Direction
 proved_way Inbound = Inbound
 proved_way Dialing = Outbound
 proved_way Outbound = Outbound
+proved_way TakenOver = TakenOver
 
 -- what is kept of it then, if it is proved at t: its peer counts as heard
 abbrev pub reached : Duration → Held → Held
@@ -215,6 +227,7 @@ abbrev pub greets_in : Pace → Direction → ℕ
 greets_in pace Inbound = as_nanos pace.greeting
 greets_in pace Dialing = max (as_nanos pace.handshake) 1
 greets_in pace Outbound = as_nanos pace.greeting
+greets_in pace TakenOver = as_nanos pace.greeting
 
 -- by when the peer of a link has to be heard: before it has greeted, and while nothing of it
 -- waits, so long after its proof, or after a dial of it began; else so long after it was heard last

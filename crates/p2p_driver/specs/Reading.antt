@@ -60,12 +60,14 @@ module _ {C S : Type 0} where
   -- by it link n began: when
   abbrev pub begins_as : ℕ → Happening C S → Option Duration
   begins_as n (Happening.Proved m p t draw) = if m == n then Some t else None
+  begins_as n (Happening.Adopted m p t outbound) = if m == n then Some t else None
   begins_as n (Happening.Dialed m p t draw word ingress) = if m == n then Some t else None
   begins_as n e = None
 
   -- .. it ended
   abbrev pub ends_as : ℕ → Happening C S → Bool
   ends_as n (Happening.Ended m p t direction) = m == n
+  ends_as n (Happening.Failed m p t direction) = m == n
   ends_as n e = false
 
   -- by it a frame of link n may be read, or a message is said on it: when

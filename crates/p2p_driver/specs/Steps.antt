@@ -1,7 +1,7 @@
 -- What calls of a node make of it, wherever it stood.
 use Rattle.std.specs.Prelude.{ℕ, ◌≡◌, ◌≤◌, ◌+◌, Bool, true, false, ◌&&◌, not, nat_lt}
 use Rattle.std.specs.Prelude.{◌%◌, List, ◌∷◌, ◌++◌, length, slice_get, Option, Some, None}
-use Rattle.std.specs.Prelude.{is_some, IfSome}
+use Rattle.std.specs.Prelude.{is_some, IfSome, ◌||◌}
 use Rattle.std.specs.declared.cmp.Ordering.{Ordering}
 use Rattle.p2p_discovery.specs.declared.types.ingress.Ingress.{Ingress}
 use Rattle.p2p_tracker.specs.Calls.{Settings, Call}
@@ -10,7 +10,7 @@ use Rattle.p2p_tracker.specs.Lists.{Somebody}
 use Rattle.p2p_tracker.specs.World.{World}
 use Rattle.p2p_tracker.specs.Answers.{is_dialable, IsDialable, held_ingress, was_granted}
 use Rattle.p2p_tracker.specs.Answers.{IsTrackAnswer, may_listen_at, may_release, was_taken}
-use Rattle.p2p_tracker.specs.Answers.{may_connect, was_blocked}
+use Rattle.p2p_tracker.specs.Answers.{may_connect, was_blocked, is_eligible_at}
 use Rattle.p2p_directory.specs.Run.{event_of, world_after}
 use Rattle.p2p_directory.specs.Nodes.{NodeView, Made, NodeStandsAt, AtEach}
 use Rattle.p2p_directory.specs.Received.{Wire}
@@ -24,6 +24,7 @@ use Rattle.p2p_driver.specs.Questions.{IsQuestion}
 use Rattle.p2p_driver.specs.Happenings.{calls_for}
 use Rattle.p2p_driver.specs.Links.{link_of, count_of}
 use Rattle.p2p_driver.specs.declared.links.Direction.TheVariants.{Inbound, Dialing, Outbound}
+use Rattle.p2p_driver.specs.declared.links.Direction.TheVariants.{TakenOver}
 use Rattle.p2p_driver.specs.declared.links.Asked.{Asked}
 use Rattle.p2p_driver.specs.declared.links.Held.{Held}
 use Rattle.p2p_driver.specs.declared.pace.Pace.{Pace}
@@ -76,6 +77,11 @@ module _ {C S : Type 0} (cmp : C → C → Ordering) where
   abbrev pub IsBusy : C → NodeView C S → Type 0
   IsBusy p v = AtEach cmp v (λ m calls.
       may_release m.directory (world_after m.directory calls) p ≡ true)
+
+  -- .. a peer may be connected, or not
+  abbrev pub IsEligible : C → ℕ → Bool → NodeView C S → Type 0
+  IsEligible p t eligible v = AtEach cmp v (λ m calls.
+      eligible ≡ is_eligible_at m.directory (world_after m.directory calls) p t)
 
   -- .. a peer is reserved, and not connected
   abbrev pub MayConnect : C → NodeView C S → Type 0
@@ -144,12 +150,27 @@ comes_by cmp pace links p granted =
     (nat_lt (length links) pace.links && nat_lt (count_of Inbound links) pace.inbound)
     && (not (is_some (link_of cmp links p)) && granted)
 
+-- how many of these links have outbound places
+abbrev pub outbound_of : {C : Type 0} → List (C × Held) → ℕ
+outbound_of links =
+    count_of Dialing links + count_of Outbound links + count_of TakenOver links
+
+-- one more has an outbound place
+abbrev pub is_outbound_free : {C : Type 0} → Pace → List (C × Held) → Bool
+is_outbound_free pace links = nat_lt (outbound_of links) pace.outbound
+
+-- a peer may come in by a grant that is kept of it, by whether there is one, and whether it may be
+-- connected: there is a place for one more link, outbound or inbound
+abbrev pub adopts_by : {C : Type 0} → Pace → List (C × Held) → Bool → Bool → Bool
+adopts_by pace links kept eligible = nat_lt (length links) pace.links
+    && ((is_outbound_free pace links || nat_lt (count_of Inbound links) pace.inbound)
+    && (kept && eligible))
+
 -- another dial has a place: there is one for one more link, one for one more outbound link, and one
 -- for one more dial under way
 abbrev pub dials_by : {C : Type 0} → Pace → List (C × Held) → Bool
 dials_by pace links = nat_lt (length links) pace.links
-    && (nat_lt (count_of Dialing links + count_of Outbound links) pace.outbound
-    && nat_lt (count_of Dialing links) pace.dials)
+    && (is_outbound_free pace links && nat_lt (count_of Dialing links) pace.dials)
 
 -- a stream has claimed to be p's
 abbrev pub is_claim_of : {C : Type 0} → (C → C → Ordering) → C → Option C → Bool

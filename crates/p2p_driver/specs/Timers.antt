@@ -13,9 +13,9 @@ use Rattle.p2p_tracker.specs.Directory.{dial_moment_in}
 use Rattle.p2p_tracker.specs.Lists.{IsLeastOf}
 use Rattle.p2p_tracker.specs.Seen.{unblock_of, cooldown_of}
 use Rattle.p2p_directory.specs.Received.{Wire}
-use Rattle.p2p_directory.specs.declared.node.setup.Setup.{Setup}
 use Rattle.p2p_driver.specs.Arrivals.{has_number, deadline_of, IsLeastDeadline}
-use Rattle.p2p_driver.specs.Drivers.{DriverView, DriverStandsAt, Does, base_of}
+use Rattle.p2p_driver.specs.Drivers.{DriverView, Does, DoesAll, AreFreedAt}
+use Rattle.p2p_driver.specs.Grants.{kept_grant, is_cooled, IsLeastCooled}
 use Rattle.p2p_driver.specs.Happenings.{Happening}
 use Rattle.p2p_driver.specs.Links.{link_of, count_of, is_late, needs, is_to_ask, to_ask, next_of}
 use Rattle.p2p_driver.specs.Links.{IsLeastDue}
@@ -26,7 +26,6 @@ use Rattle.p2p_driver.specs.declared.driver.dialing.Dialed.{Dialed}
 use Rattle.p2p_driver.specs.declared.driver.dialing.Dialed.TheVariants as dialed
 use Rattle.p2p_driver.specs.declared.links.Direction.TheVariants.{Dialing}
 use Rattle.p2p_driver.specs.declared.links.Held.{Held}
-use Rattle.p2p_driver.specs.declared.pace.Pace.{Pace}
 use Rattle.p2p_driver.specs.declared.questions.Question.{Question}
 
 module _ {C S : Type 0} where
@@ -117,10 +116,16 @@ module _ {C S : Type 0} (cmp : C → C → Ordering) where
   NoneToAsk t v = (p : C) (held : Held) → link_of cmp v.links p ≡ Some held →
       is_to_ask (as_nanos v.pace.tick) t held ≡ false
 
+  -- no grant is kept whose cooldown is over at t
+  abbrev pub NoneCooled : ℕ → DriverView C S → Type 0
+  NoneCooled t v = (p : C) →
+      is_cooled v.cooldown t (kept_grant cmp v.links v.next_dial.grants p) ≡ false
+
   -- .. none of these is due
   pub record NoneDue (t : ℕ) (v : DriverView C S) : Type 0 where
     pub late : NoneLate t v
     pub to_ask : NoneToAsk t v
+    pub kept : NoneCooled t v
 
 -- the earlier of two moments, if there are some
 abbrev pub earlier : Option ℕ → Option ℕ → Option ℕ
@@ -133,19 +138,21 @@ abbrev pub held_moment : Option ℕ → Option ℕ
 held_moment moment = option_map (λ n. min n max_nanos) moment
 
 -- the first moment at which something is due: a stream or a link is late, a peer is to be asked, a
--- block or a cooldown ends, or it is to be looked for somebody to dial
+-- block or a cooldown ends, that of a kept grant too, or it is to be looked for somebody to dial
 pub record IsNextTimeout {C S : Type 0} (cmp : C → C → Ordering) (v : DriverView C S)
     (next : Option ℕ) : Type 0 where
   pub stream : Option ℕ
   pub link : Option ℕ
+  pub kept : Option ℕ
   pub block : Option ℕ
   pub cooldown : Option ℕ
   pub streams :
       IsLeastDeadline (as_nanos v.pace.first) (as_nanos v.pace.handshake) v.arrivals stream
   pub links : IsLeastDue cmp (next_of v.pace) v.links link
+  pub grants : IsLeastCooled cmp v.cooldown v.links v.next_dial.grants kept
   pub blocks : IsLeastOf (unblock_of cmp v.node.directory) block
   pub cooldowns : IsLeastOf (dial_moment_in cmp v.node.directory) cooldown
-  pub next_is : next ≡ earlier (held_moment (dial_due v))
+  pub next_is : next ≡ earlier (earlier (held_moment (dial_due v)) (held_moment kept))
       (earlier (earlier (held_moment stream) (held_moment link)) (earlier block cooldown))
 
 -- but for the time, all is as it was: a driver and what it asked of its node, of which no block and
@@ -159,11 +166,19 @@ pub record IsAsBefore {C S : Type 0} (cmp : C → C → Ordering) (t : ℕ) (v v
       cooldown_of cmp v2.node.directory p ≡ cooldown_of cmp v.node.directory p
 
 module _ {C S : Type 0} (cmp : C → C → Ordering) (wire : Wire C S) where
-  -- wherever it stood, it stands after these happenings too, the newest first
-  abbrev pub DoesAll : List (Happening C S) → DriverView C S → DriverView C S → Type 0
-  DoesAll es v v2 = (given : Setup C S) (pace : Pace) (h : List (Happening C S)) →
-      DriverStandsAt (base_of cmp wire given pace) h v →
-      DriverStandsAt (base_of cmp wire given pace) (es ++ h) v2
+  -- the grant that was kept of a peer is given up at t, at once
+  pub record FreesOne (t : Duration) (v v2 : DriverView C S) : Type 0 where
+    pub peer : C
+    pub does : Does cmp wire (Happening.Released peer t) v v2
+    pub rest : v2 ≡ record v { node = v2.node; next_dial = v2.next_dial }
+    pub fewer : length v2.next_dial.grants < length v.next_dial.grants
+
+  -- .. those of some are
+  pub record FreesSome (t : Duration) (v v2 : DriverView C S) : Type 0 where
+    pub happenings : List (Happening C S)
+    pub are_freed : AreFreedAt t happenings
+    pub does : DoesAll cmp wire happenings v v2
+    pub rest : v2 ≡ record v { node = v2.node; next_dial = v2.next_dial }
 
   -- one that is late at t is closed, at once
   pub record ClosesOne (t : Duration) (v v2 : DriverView C S) : Type 0 where
@@ -177,7 +192,7 @@ module _ {C S : Type 0} (cmp : C → C → Ordering) (wire : Wire C S) where
   pub record ClosesLate (t : Duration) (v v2 : DriverView C S) : Type 0 where
     pub happenings : List (Happening C S)
     pub are_late : AreLateAt t happenings
-    pub does : DoesAll happenings v v2
+    pub does : DoesAll cmp wire happenings v v2
     pub latest : v2.latest ≡ v.latest
 
   -- a peer is asked that is to be asked at t, at once, if the queue of its link has room: whether
@@ -202,7 +217,7 @@ module _ {C S : Type 0} (cmp : C → C → Ordering) (wire : Wire C S) where
     pub happenings : List (Happening C S)
     pub are_asked : AreAskedAt t happenings
     pub all : list_all was_asked happenings ≡ is_ok result
-    pub does : DoesAll happenings v v2
+    pub does : DoesAll cmp wire happenings v v2
     pub latest : v2.latest ≡ v.latest
 
   -- a dial of p begins at t, by a random word
@@ -215,6 +230,7 @@ module _ {C S : Type 0} (cmp : C → C → Ordering) (wire : Wire C S) where
     pub pace : v2.pace ≡ v.pace
     pub late : NoneLate cmp (as_nanos t) v → NoneLate cmp (as_nanos t) v2
     pub to_ask : NoneToAsk cmp (as_nanos t) v → NoneToAsk cmp (as_nanos t) v2
+    pub kept : NoneCooled cmp (as_nanos t) v → NoneCooled cmp (as_nanos t) v2
     pub more : count_of Dialing v2.links ≡ count_of Dialing v.links + 1
 
   -- .. or memory is refused, and nothing changes
@@ -232,7 +248,7 @@ module _ {C S : Type 0} (cmp : C → C → Ordering) (wire : Wire C S) where
       × Does cmp wire (Happening.Undialed t) v v2
       × ((retry : ℕ) × (v2 ≡ record v { next_dial = record v.next_dial { retry = retry } }))
       × NoneToDial (as_nanos t) v2
-  DialsOne t word dialed.Nobody v v2 = DoesAll [] v v2
+  DialsOne t word dialed.Nobody v v2 = DoesAll cmp wire [] v v2
       × ((from : Option Duration)
       × (v2 ≡ record v { next_dial = record v.next_dial { from = from } }))
       × NoneToDial (as_nanos t) v2 × (NoneToDial (as_nanos t) v → v2 ≡ v)
@@ -243,12 +259,12 @@ module _ {C S : Type 0} (cmp : C → C → Ordering) (wire : Wire C S) where
     pub happenings : List (Happening C S)
     pub are_dialed : AreDialedAt t words happenings
     pub all : list_all was_dialed happenings ≡ is_ok result
-    pub does : DoesAll happenings v v2
+    pub does : DoesAll cmp wire happenings v v2
     pub latest : v2.latest ≡ v.latest
 
   -- at the later of the latest time and this one, what ends by then ends: cooldowns and blocks.
-  -- Then some that are late are closed, then some are asked, and then some are dialled: whether
-  -- memory was there for all
+  -- Then some that are late are closed, then some are asked, then some grants that were kept are
+  -- given up, and then some are dialled: whether memory was there for all
   pub record TimesOut (now : ℕ) (words : List ℕ) (result : Result (Unit {0}) AllocError)
       (v v2 : DriverView C S) : Type 0 where
     pub time : Duration
@@ -257,7 +273,10 @@ module _ {C S : Type 0} (cmp : C → C → Ordering) (wire : Wire C S) where
     pub are_late : AreLateAt time late
     pub asked : List (Happening C S)
     pub are_asked : AreAskedAt time asked
+    pub freed : List (Happening C S)
+    pub are_freed : AreFreedAt time freed
     pub dialed : List (Happening C S)
     pub are_dialed : AreDialedAt time words dialed
     pub all : (list_all was_asked asked && list_all was_dialed dialed) ≡ is_ok result
-    pub does : DoesAll (dialed ++ (asked ++ (late ++ Happening.Passed time ∷ []))) v v2
+    pub does : DoesAll cmp wire
+        (dialed ++ (freed ++ (asked ++ (late ++ Happening.Passed time ∷ [])))) v v2

@@ -1,20 +1,30 @@
 //! A driver of a node: events come in, actions go out.
 
 ghost use Rattle.std.specs.Prelude.{◌≡◌, ◌≤◌, ◌<◌, ◌-◌, ◌^◌, [], None, Ok};
-ghost use Rattle.std.specs.Prelude.{IfOk, IfSome, IfNone, OnErr, max, length};
+ghost use Rattle.std.specs.Prelude.{IfOk, IfSome, IfNone, OnOk, OnErr, max, length, find};
+ghost use Rattle.std.specs.Prelude.{true, is_some, Bool};
 ghost use Rattle.std.specs.Int.{w128, from_be_bytes};
 ghost use Rattle.std.specs.Duration.{as_nanos};
 ghost use Rattle.std.specs.Int.NonZero.{non_zero_usize_get};
-ghost use Rattle.p2p_directory.specs.Nodes.{NodeView};
+ghost use Rattle.p2p_directory.specs.Nodes.{NodeView, AtEach};
 ghost use Rattle.p2p_driver.specs.Drivers.{DriverStandsAt, base_of, Comes, HasNoRoom};
 ghost use Rattle.p2p_driver.specs.Drivers.{AnswersClaim, AnswersProof, AnswersEnd, AnswersNext};
-ghost use Rattle.p2p_driver.specs.Drivers.{jitter_of, DialProvedBy};
+ghost use Rattle.p2p_driver.specs.Drivers.{jitter_of, DialProvedBy, Does, EndsAt, is_claim_by};
+ghost use Rattle.p2p_tracker.specs.Answers.{may_listen_at, is_eligible_at};
+ghost use Rattle.p2p_directory.specs.Run.{world_after};
+ghost use Rattle.p2p_driver.specs.Arrivals.{has_number};
+ghost use Rattle.p2p_driver.specs.Grants.{kept_grant};
+ghost use Rattle.p2p_driver.specs.Happenings.Happening.{Proved, Adopted};
+ghost use Rattle.p2p_driver.specs.Links.{link_of};
+ghost use Rattle.p2p_driver.specs.Steps.{adopts_by, comes_by};
+ghost use Rattle.std.specs.Option.{IsSomeAnd};
 ghost use Rattle.p2p_directory.specs.Held.{ReleasesAll};
 ghost use Rattle.p2p_driver.specs.Origins.{origin_of};
 
 use crate::actions::{Action, Actions, Why};
 use crate::answers::Answers;
 use crate::arrivals::{Arrivals, Room};
+use crate::grants::Grants;
 use crate::link::{Link, Now};
 use crate::links::Links;
 use crate::next_dial::NextDial;
@@ -35,6 +45,7 @@ use std::time::Duration;
 mod application;
 mod dialing;
 mod frames;
+mod keeping;
 mod queries;
 mod reading;
 mod sets;
@@ -57,7 +68,7 @@ pub struct Driver<C: PublicKey> {
     greeting: Bytes,
     // Between two reservations of one peer.
     cooldown: Duration,
-    next_dial: NextDial,
+    next_dial: NextDial<C>,
     latest: Duration,
     next: u64,
     arrivals: Arrivals<C>,
@@ -114,6 +125,7 @@ impl<C: PublicKey> Driver<C> {
             next_dial: NextDial {
                 from: Some(Duration::ZERO),
                 retry: 0,
+                grants: Grants::new(alloc),
             },
             latest: Duration::ZERO,
             next: 1,
@@ -196,7 +208,8 @@ impl<C: PublicKey> Driver<C> {
             return false;
         }
         let now = later(self.latest, now.steady);
-        let may = connections::may_come(&self.node, &self.links, &self.pace, &peer, now);
+        let grants = &self.next_dial.grants;
+        let may = connections::may_come(&self.node, &self.links, grants, &self.pace, &peer, now);
         let closed = streams::claim(
             &mut self.arrivals,
             &mut self.answers,
@@ -212,11 +225,16 @@ impl<C: PublicKey> Driver<C> {
     }
 
     /// The stream is authenticated as the peer's. It returns whether it is a link from now on: the
-    /// peer is then reserved, with a jitter by the random word, and the own greeting is sent on the
-    /// link. That is so if the stream has claimed to be the peer's, there is a place, the peer has
-    /// no link, and the directory grants a [`Directory::listen`]. Else the stream is closed, as
+    /// own greeting is sent on it then. That is so if the stream has claimed to be the peer's, and
+    /// one of these holds, which are looked at in this order. Else the stream is closed, as
     /// `WrongKey` if it hasn't claimed to be that peer's, or as `NotGranted`, and its number is
     /// unknown from now on.
+    ///
+    /// - The grant of a dial is kept of the peer, there is a place, outbound or inbound, and the
+    ///   peer is eligible. The link takes the grant over: the peer stays reserved, and the word has
+    ///   no effect. The link has an outbound place if one is free, else an inbound one.
+    /// - There is a place, inbound, the peer has no link, and the directory grants a
+    ///   [`Directory::listen`]. The peer is then reserved, with a jitter by the random word.
     ///
     /// The stream of a dial becomes outbound if it is authenticated as the peer's that was dialled,
     /// and the own greeting is sent on it. Else it is closed as `WrongKey`.
@@ -239,46 +257,96 @@ impl<C: PublicKey> Driver<C> {
         let Some(stream) = self.arrivals.get(link.0) else {
             return self.reached(link, &peer, now);
         };
-        match connections::no_proof(
+        let grants = &self.next_dial.grants;
+        if let Some(why) = connections::no_proof(
             &self.node,
             &self.links,
+            grants,
             &self.pace,
             stream.claim,
             &peer,
             now,
         ) {
-            Some(why) => {
-                streams::close(
-                    &mut self.arrivals,
-                    &mut self.answers,
-                    &mut self.actions,
-                    link.0,
-                    why,
-                );
-                self.latest = now;
-                Ok(false)
-            }
-            None => {
-                if let Err(failed) = connections::begin(
-                    &mut self.node,
-                    &mut self.reads,
-                    &mut self.links,
-                    &mut self.actions,
-                    &self.greeting,
-                    peer,
-                    link.0,
-                    self.pace.channels.as_slice(),
-                    now,
-                    jitter(self.cooldown, word),
-                ) {
-                    return Err(failed);
-                }
-                streams::leave(&mut self.arrivals, &mut self.answers, link.0);
-                self.latest = now;
-                self.next_dial.from = Some(Duration::ZERO);
-                Ok(true)
-            }
+            streams::close(
+                &mut self.arrivals,
+                &mut self.answers,
+                &mut self.actions,
+                link.0,
+                why,
+            );
+            self.latest = now;
+            return Ok(false);
         }
+        if connections::may_adopt(&self.node, &self.links, grants, &self.pace, &peer, now) {
+            self.adopt(link, peer, now)?;
+        } else {
+            self.begin(link, peer, word, now)?;
+        }
+        Ok(true)
+    }
+
+    // A stream has claimed to be the peer's, and is: the peer is reserved for it, with the jitter
+    // of a random word.
+    fn begin(&mut self, link: Link, peer: C, word: u64, now: Duration) -> Result<(), AllocError>
+        requires time { self.old.latest ≤ as_nanos now }
+        requires claimed { is_claim_by C.cmp peer
+            (find (has_number link.0) self.old.arrivals) ≡ true }
+        requires may { AtEach C.cmp self.old.node (λ m calls. comes_by C.cmp self.old.pace
+            self.old.links peer (may_listen_at m.directory (world_after m.directory calls) peer
+            (as_nanos now)) ≡ true) }
+        ensures did { let wire = ⟦<C as Frames>⟧.wire in OnOk result ((draw : Duration)
+            × (as_nanos draw ≡ jitter_of self.old.cooldown word)
+            × Does C.cmp wire (Proved link.0 peer now draw) self.old self.new) }
+        ensures err { OnErr result (self.new ≡ self.old) }
+    {
+        connections::begin(
+            &mut self.node,
+            &mut self.reads,
+            &mut self.links,
+            &mut self.actions,
+            &self.greeting,
+            peer,
+            link.0,
+            self.pace.channels.as_slice(),
+            now,
+            jitter(self.cooldown, word),
+        )?;
+        streams::leave(&mut self.arrivals, &mut self.answers, link.0);
+        self.latest = now;
+        self.next_dial.from = Some(Duration::ZERO);
+        Ok(())
+    }
+
+    // A stream has claimed to be the peer's, and is: it takes over the grant that is kept of it.
+    fn adopt(&mut self, link: Link, peer: C, now: Duration) -> Result<(), AllocError>
+        requires time { self.old.latest ≤ as_nanos now }
+        requires claimed { is_claim_by C.cmp peer
+            (find (has_number link.0) self.old.arrivals) ≡ true }
+        requires may { AtEach C.cmp self.old.node (λ m calls. adopts_by self.old.pace
+            self.old.links
+            (is_some (kept_grant C.cmp self.old.links self.old.next_dial.grants peer))
+            (is_eligible_at m.directory (world_after m.directory calls) peer (as_nanos now))
+            ≡ true) }
+        ensures did { let wire = ⟦<C as Frames>⟧.wire in OnOk result ((outbound : Bool)
+            × Does C.cmp wire (Adopted link.0 peer now outbound) self.old self.new) }
+        ensures err { OnErr result (self.new ≡ self.old) }
+    {
+        let direction = connections::adopts_as(&self.links, &self.pace);
+        connections::adopt(
+            &mut self.reads,
+            &mut self.links,
+            &mut self.next_dial.grants,
+            &mut self.actions,
+            &self.greeting,
+            peer,
+            link.0,
+            direction,
+            self.pace.channels.as_slice(),
+            now,
+        )?;
+        streams::leave(&mut self.arrivals, &mut self.answers, link.0);
+        self.latest = now;
+        Ok(())
     }
 
     // The stream of a dial is authenticated as the peer's: it is outbound from now on if that peer
@@ -311,13 +379,18 @@ impl<C: PublicKey> Driver<C> {
         Ok(false)
     }
 
-    /// The stream has ended, or the dial failed. A link releases its peer. It returns whether there
-    /// was such a stream or link: its number is unknown from now on. Nothing changes if there was
-    /// none. It doesn't allocate.
+    /// The stream has ended, or the dial failed. It returns whether there was such a stream or
+    /// link: its number is unknown from now on. Nothing changes if there was none. It doesn't
+    /// allocate.
+    ///
+    /// A link releases its peer. But if it is a dial on which the peer hasn't greeted, less time
+    /// than the cooldown has passed since it was granted, and the peer is eligible, the grant is
+    /// kept: the peer stays reserved, and may come in by it.
     ///
     /// # Cost
     ///
-    /// That of [`Node::release`], some searches among the links, and two passes over the streams.
+    /// That of [`Node::release`], some searches among the links and the grants of dials, and two
+    /// passes over the streams.
     pub fn ended(&mut self, link: Link, now: Now) -> bool
         ensures { let wire = ⟦<C as Frames>⟧.wire in AnswersEnd C.cmp wire link.0
             (as_nanos now.steady) result self.old self.new }
@@ -331,11 +404,32 @@ impl<C: PublicKey> Driver<C> {
         let Some(peer) = self.links.find(link.0) else {
             return false;
         };
-        connections::end(&mut self.node, &mut self.links, &mut self.actions, &peer);
-        self.next_dial.from = Some(Duration::ZERO);
-        self.reads.end(link.0);
-        self.latest = later(self.latest, now.steady);
+        let now = later(self.latest, now.steady);
+        self.end(link, &peer, now);
         true
+    }
+
+    // The link of a peer ended: the grant of a dial that came to nothing is kept, else the peer is
+    // released.
+    fn end(&mut self, link: Link, peer: &C, now: Duration)
+        requires time { self.old.latest ≤ as_nanos now }
+        requires linked { IsSomeAnd (link_of C.cmp self.old.links peer.now)
+            (λ held. held.number ≡ link.0) }
+        ensures { let wire = ⟦<C as Frames>⟧.wire in
+            IsSomeAnd (link_of C.cmp self.old.links peer.now)
+            (λ held. EndsAt C.cmp wire link.0 peer.now (as_nanos now) held self.old self.new) }
+    {
+        let grants = &self.next_dial.grants;
+        let stays = connections::stays(&self.node, grants, self.cooldown, peer, now);
+        self.reads.end(link.0);
+        self.latest = now;
+        if stays {
+            connections::fail(&mut self.links, &mut self.actions, peer);
+            return;
+        }
+        connections::end(&mut self.node, &mut self.links, &mut self.actions, peer);
+        self.next_dial.grants.remove(peer);
+        self.next_dial.from = Some(Duration::ZERO);
     }
 
     /// Takes the first action that waits, which the host is to do, or `None` if none waits. Those

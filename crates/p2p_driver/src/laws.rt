@@ -2,7 +2,7 @@
 
 ghost use Rattle.std.specs.Prelude.{ℕ, ◌≡◌, ◌≤◌, ◌&&◌, not, if◌then◌else◌, true, List, ◌∷◌, ◌++◌};
 ghost use Rattle.std.specs.Prelude.{◌<◌, ◌+◌, ◌-◌, ◌*◌, false, length, map, Some, None, is_some};
-ghost use Rattle.std.specs.Prelude.{Option, [], option_map, drop, max};
+ghost use Rattle.std.specs.Prelude.{Option, [], option_map, drop, max, ◌||◌};
 ghost use Rattle.std.specs.Duration.{as_nanos};
 ghost use Rattle.std.specs.Int.NonZero.{non_zero_u32_get};
 ghost use Rattle.std.specs.List.{Contains, count_by};
@@ -29,7 +29,8 @@ ghost use Rattle.p2p_driver.specs.Laws.{has_greeted, cut_by, Blames, bare, asked
 ghost use Rattle.p2p_driver.specs.Laws.{is_head, first_on, said_since, written_since};
 ghost use Rattle.p2p_driver.specs.Reading.{rate_at, frames_read};
 ghost use Rattle.p2p_driver.specs.Drivers.{DriverView, Base, DriverStandsAt, AreRight, link};
-ghost use Rattle.p2p_driver.specs.Drivers.{IsRight, may_come, no_proof};
+ghost use Rattle.p2p_driver.specs.Drivers.{IsRight, may_come, no_proof, kept};
+ghost use Rattle.p2p_driver.specs.Grants.{kept_grant};
 ghost use Rattle.p2p_driver.specs.declared.arrivals.Room.TheVariants as Room;
 ghost use Rattle.p2p_driver.specs.Answers.{times_of};
 ghost use Rattle.p2p_driver.specs.Rates.{count_in};
@@ -42,21 +43,24 @@ use p2p_directory::node::wire::Frames;
 use p2p_discovery::codec::PublicKey;
 use std::time::Duration;
 
-/// By a law of drivers, there is one link for each reservation, whatever a driver did that it might
-/// do. Its node retains a set or more.
+/// By a law of drivers, there is one link or one kept grant for each reservation, whatever a driver
+/// did that it might do. Its node retains a set or more.
 ///
-/// - By what it did, a peer has a link exactly if it is reserved or connected in the world that the
-///   calls of its node make.
+/// - By what it did, a peer has a link, or the grant of a dial is kept of it, exactly if it is
+///   reserved or connected in the world that the calls of its node make. It never has both.
 /// - It is connected there exactly if it has a link on which it has greeted.
-/// - The node of a driver that did it holds reservations of exactly the peers that have a link.
-/// - The links that the driver keeps are those by what it did.
+/// - The node of a driver that did it holds reservations of exactly the peers that have a link, or
+///   of which a grant is kept.
+/// - The links that the driver keeps are those by what it did, and so are the grants.
 /// - The calls are accepted calls of the node, so all laws of runs hold of them.
 /// - Their moments never go back.
 pub fn links_are_reservations<C: PublicKey>()
     ensures world { (b : Base C C.Signature) → b.made.directory.cmp ≡ C.cmp →
         1 ≤ b.made.directory.max_sets → (h : List (Happening C C.Signature)) → AreRight b h →
-        (p : C) →
-        is_some (link b p h) ≡ is_busy_in (world_after b.made.directory (calls_of h)) p }
+        (p : C) → (is_some (link b p h) || is_some (kept b p h))
+        ≡ is_busy_in (world_after b.made.directory (calls_of h)) p }
+    ensures one { (b : Base C C.Signature) (h : List (Happening C C.Signature)) (p : C) →
+        (is_some (link b p h) && is_some (kept b p h)) ≡ false }
     ensures connected { (b : Base C C.Signature) → b.made.directory.cmp ≡ C.cmp →
         1 ≤ b.made.directory.max_sets → (h : List (Happening C C.Signature)) → AreRight b h →
         (p : C) → let s = b.made.directory in
@@ -65,10 +69,12 @@ pub fn links_are_reservations<C: PublicKey>()
     ensures held { (b : Base C C.Signature) → b.made.directory.cmp ≡ C.cmp →
         1 ≤ b.made.directory.max_sets → (h : List (Happening C C.Signature))
         (v : DriverView C C.Signature) → DriverStandsAt b h v → (p : C) →
-        is_some (held_of C.cmp v.node.held p) ≡ is_some (link_of C.cmp v.links p) }
+        is_some (held_of C.cmp v.node.held p) ≡ (is_some (link_of C.cmp v.links p)
+        || is_some (kept_grant C.cmp v.links v.next_dial.grants p)) }
     ensures kept { (b : Base C C.Signature) → b.made.directory.cmp ≡ C.cmp →
         (h : List (Happening C C.Signature)) (v : DriverView C C.Signature) →
-        DriverStandsAt b h v → (p : C) → link_of C.cmp v.links p ≡ link b p h }
+        DriverStandsAt b h v → (p : C) → (link_of C.cmp v.links p ≡ link b p h)
+        × (kept_grant C.cmp v.links v.next_dial.grants p ≡ kept b p h) }
     ensures run { (b : Base C C.Signature) (h : List (Happening C C.Signature))
         (v : DriverView C C.Signature) → DriverStandsAt b h v →
         NodeStandsAt b.made (calls_of h) v.node }
@@ -94,9 +100,9 @@ pub fn one_link<C: PublicKey>()
 /// By a law of drivers, a set of peers that is accepted closes at once the links of those that it
 /// tears down.
 ///
-/// - It tears down exactly those peers with a link that were entitled before it, and aren't after
-///   it. A peer is entitled if a retained set names it or it is a bootstrapper. The node retains a
-///   set or more.
+/// - It tears down exactly those peers with a link, or of which a grant is kept, that were entitled
+///   before it, and aren't after it. A peer is entitled if a retained set names it or it is a
+///   bootstrapper. The node retains a set or more.
 /// - The link of each of these is closing then, and every other link is as before.
 /// - If it wasn't closing before, its close is said.
 ///
@@ -110,7 +116,8 @@ pub fn closed_at_once<C: PublicKey>()
         1 ≤ b.made.directory.max_sets → (h : List (Happening C C.Signature))
         (t : Duration) (index : ℕ) (primary secondary torn : List C) →
         let s = b.made.directory in let e = SetCame t index primary secondary torn in
-        AreRight b (e ∷ h) → (p : C) → has_key s.cmp torn p ≡ (is_some (link b p h)
+        AreRight b (e ∷ h) → (p : C) → has_key s.cmp torn p
+        ≡ ((is_some (link b p h) || is_some (kept b p h))
         && is_entitled s p (world_after s (calls_of h)).sets
         && not (is_entitled s p (world_after s (calls_of (e ∷ h))).sets)) }
     ensures closing { (b : Base C C.Signature) (h : List (Happening C C.Signature))
@@ -142,12 +149,12 @@ pub fn closed_at_once<C: PublicKey>()
 /// - A driver keeps as many links as there are by what it did.
 /// - It keeps at most `arrivals` streams that aren't proved, at most `by_address` of each origin.
 pub fn budget<C: PublicKey>()
-    ensures links { (b : Base C C.Signature) → b.made.directory.cmp ≡ C.cmp →
-        (h : List (Happening C C.Signature)) → AreRight b h → link_count h ≤ b.pace.links }
+    ensures links { (b : Base C C.Signature) (h : List (Happening C C.Signature)) →
+        AreRight b h → link_count h ≤ b.pace.links }
     ensures inbound { (b : Base C C.Signature) (h : List (Happening C C.Signature)) →
         AreRight b h → inbound_count h ≤ b.pace.inbound }
-    ensures outbound { (b : Base C C.Signature) → b.made.directory.cmp ≡ C.cmp →
-        (h : List (Happening C C.Signature)) → AreRight b h → outbound_count h ≤ b.pace.outbound }
+    ensures outbound { (b : Base C C.Signature) (h : List (Happening C C.Signature)) →
+        AreRight b h → outbound_count h ≤ b.pace.outbound }
     ensures dials { (b : Base C C.Signature) (h : List (Happening C C.Signature)) →
         AreRight b h → dial_count h ≤ b.pace.dials }
     ensures kept { (b : Base C C.Signature) (h : List (Happening C C.Signature))

@@ -13,6 +13,7 @@ mod deadlines;
 pub mod digest;
 pub mod driver;
 mod frames;
+pub mod grants;
 pub mod heads;
 mod hearing;
 pub mod laws;

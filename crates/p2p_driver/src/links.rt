@@ -8,7 +8,7 @@ ghost use Rattle.std.specs.List.Sorted.{IsStrictlySortedBy};
 ghost use Rattle.std.specs.Map.{keys_of, values_of, remove_entry, set_value};
 ghost use Rattle.std.specs.Option.{IsSomeAnd};
 ghost use Rattle.std.specs.BTreeMap.{is_at, get, insert_entry};
-ghost use Rattle.p2p_driver.specs.Links.{link_of, need_at, needs, link_with, one_if_greeting};
+ghost use Rattle.p2p_driver.specs.Links.{link_of, need_at, needs, link_as, one_if_greeting};
 ghost use Rattle.p2p_driver.specs.Links.{opened, hearing, asking, allowing, saying, writing};
 ghost use Rattle.p2p_driver.specs.Links.{closed, changed, has_room, has_room_at};
 ghost use Rattle.p2p_driver.specs.Links.{is_ungreeted, is_slow, is_timed, greets_in};
@@ -50,6 +50,9 @@ pub enum Direction {
     Dialing,
     /// A dial, whose stream was proved.
     Outbound,
+    /// A stream came in, and was proved to be of a peer of which the grant of a dial was kept. It
+    /// took that over, and has an outbound place.
+    TakenOver,
 }
 
 /// A frame that waits until it is told which signatures in it are valid.
@@ -438,8 +441,8 @@ impl<C: Ord + Copy> Links<C> {
     }
 
     /// Keeps a link of the peer, of a stream that came in and was proved at the steady time
-    /// `since`. The peer hasn't greeted. The own greeting is said on the link then. All other links
-    /// stay.
+    /// `since`, and that came about so. The peer hasn't greeted. The own greeting is said on the
+    /// link then. All other links stay.
     ///
     /// # Conditions
     ///
@@ -452,23 +455,29 @@ impl<C: Ord + Copy> Links<C> {
     /// # Cost
     ///
     /// Two searches among the links.
-    pub fn put(&mut self, peer: C, number: u64, since: Duration) -> Result<(), AllocError>
+    pub fn put(
+        &mut self,
+        peer: C,
+        number: u64,
+        direction: Direction,
+        since: Duration,
+    ) -> Result<(), AllocError>
         requires unlinked { link_of C.cmp self.old peer ≡ None }
         requires unused { (q : C) (held : Held) → link_of C.cmp self.old q ≡ Some held →
             held.number ≡ number → ⊥ }
         ensures ok { OnOk result ((q : C) → link_of C.cmp self.new q ≡
-            (if is_at (C.cmp peer) q then Some (link_with number since)
+            (if is_at (C.cmp peer) q then Some (link_as direction number since)
             else link_of C.cmp self.old q)) }
         ensures entries { OnOk result (self.new ≡
-            insert_entry C.cmp self.old peer (link_with number since)) }
+            insert_entry C.cmp self.old peer (link_as direction number since)) }
         ensures count { OnOk result (length self.new ≡ length self.old + 1) }
         ensures counts { OnOk result ((way : Direction) → count_of way self.new
-            ≡ count_of way self.old + (if is_way way Direction.Inbound then 1 else 0)) }
+            ≡ count_of way self.old + (if is_way way direction then 1 else 0)) }
         ensures needs { OnOk result (needs self.new ≡ needs self.old + 1) }
         ensures err { OnErr result (self.new ≡ self.old) }
     {
         let unwritten = Unwritten::new(self.alloc, since)?;
-        self.keep(peer, begun(number, Direction::Inbound, since, unwritten))
+        self.keep(peer, begun(number, direction, since, unwritten))
     }
 
     /// Keeps a link of the peer, whose dial began at the steady time `since`: its stream isn't

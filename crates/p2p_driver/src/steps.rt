@@ -9,7 +9,7 @@ ghost use Rattle.p2p_directory.specs.Nodes.{IsSame};
 ghost use Rattle.p2p_driver.specs.Steps.{Makes, MayListen, IsBusy, IsTaken, TearsDown};
 ghost use Rattle.p2p_driver.specs.Steps.{IsBlocked, MayBlock, MayConnect};
 ghost use Rattle.p2p_driver.specs.Steps.{IsGranted, AreDialable, StaysQuiet, MayBeDialled};
-ghost use Rattle.p2p_driver.specs.Steps.{IsAddress, is_before};
+ghost use Rattle.p2p_driver.specs.Steps.{IsAddress, IsEligible, is_before};
 
 use p2p_directory::node::Node;
 use p2p_directory::run::{Command, Reply};
@@ -79,6 +79,13 @@ pub(crate) fn ingress<C: PublicKey>(node: &Node<C>, peer: &C) -> Option<Ingress>
     ensures { IfSome result (λ ingress. IsAddress C.cmp peer.now ingress node.now) }
 {
     node.ingress(peer).ok()?
+}
+
+// Whether a peer may be connected now.
+pub(crate) fn is_eligible<C: PublicKey>(node: &Node<C>, peer: &C, now: Duration) -> bool
+    ensures { IsEligible C.cmp peer.now (as_nanos now) result node.now }
+{
+    node.eligible(peer, now)
 }
 
 // Releases a peer that is reserved or connected.

@@ -30,7 +30,8 @@ fn put(links: &mut Links<u64>, peer: u64, number: u64, millis: u64) -> Result<bo
     let None = links.find(number) else {
         return Ok(false);
     };
-    links.put(peer, number, Duration::from_millis(millis))?;
+    let since = Duration::from_millis(millis);
+    links.put(peer, number, Direction::Inbound, since)?;
     Ok(true)
 }
 

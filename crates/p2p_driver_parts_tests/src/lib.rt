@@ -11,6 +11,8 @@ mod arrivals;
 #[cfg(test)]
 mod dials;
 #[cfg(test)]
+mod grants;
+#[cfg(test)]
 mod heads;
 #[cfg(test)]
 mod links;

@@ -3,7 +3,7 @@
 
 use bytes::Bytes;
 use failing_alloc::{FailingAlloc, STEP};
-use p2p_driver::links::{Asked, Links, Phase, Waiting};
+use p2p_driver::links::{Asked, Direction, Links, Phase, Waiting};
 use p2p_driver::pace::Pace;
 use std::alloc::{AllocError, Global};
 use std::process::Abort;
@@ -19,7 +19,8 @@ fn put(links: &mut Links<u64>, peer: u64, number: u64, millis: u64) -> Result<bo
     let None = links.find(number) else {
         return Ok(false);
     };
-    links.put(peer, number, Duration::from_millis(millis))?;
+    let since = Duration::from_millis(millis);
+    links.put(peer, number, Direction::Inbound, since)?;
     Ok(true)
 }
 

@@ -8,6 +8,7 @@ mod dial_famine;
 mod dialed;
 mod dials;
 mod famine;
+mod kept;
 mod late;
 mod later;
 mod links;

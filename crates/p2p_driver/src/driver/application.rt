@@ -32,7 +32,8 @@ impl<C: PublicKey> Driver<C> {
     }
 
     /// The application blocks a peer for `block_duration`. The peer's link is closed as `Blocked`,
-    /// if it has one that isn't closing. It returns whether the block was accepted, as
+    /// if it has one that isn't closing. If the grant of a dial is kept of the peer, and the block
+    /// is accepted, the peer is released. It returns whether the block was accepted, as
     /// [`Directory::block`](p2p_tracker::directory::Directory::block) does.
     ///
     /// # Errors
@@ -42,8 +43,8 @@ impl<C: PublicKey> Driver<C> {
     ///
     /// # Cost
     ///
-    /// That of [`Directory::block`](p2p_tracker::directory::Directory::block), and two searches
-    /// among the links.
+    /// That of [`Directory::block`](p2p_tracker::directory::Directory::block), two searches among
+    /// the links, and one pass over the grants of dials for each that is given up, and one more.
     pub fn block(&mut self, peer: &C, now: Now) -> Result<bool, AllocError>
         ensures { let wire = ⟦<C as Frames>⟧.wire in AnswersBlock C.cmp wire peer.now
             (as_nanos now.steady) result self.old self.new }
@@ -55,6 +56,7 @@ impl<C: PublicKey> Driver<C> {
         self.latest = time;
         self.next_dial.from = Some(Duration::ZERO);
         connections::shut(&mut self.links, &mut self.actions, peer, Why::Blocked);
+        self.free_all_unfit(time);
         Ok(taken)
     }
 

@@ -4,7 +4,7 @@ ghost use Rattle.std.specs.Prelude.{◌≡◌, ◌≤◌, ◌+◌, true, length,
 ghost use Rattle.std.specs.Duration.{as_nanos};
 ghost use Rattle.p2p_driver.specs.Steps.{IsChosen};
 ghost use Rattle.p2p_driver.specs.Timers.{NoneLate, NoneToAsk, NoneToDial, DialsOne, DialsAll};
-ghost use Rattle.p2p_driver.specs.Timers.{is_to_dial, Begins};
+ghost use Rattle.p2p_driver.specs.Timers.{is_to_dial, Begins, NoneCooled};
 
 use crate::driver::{Driver, jitter};
 use crate::rate::after;
@@ -39,6 +39,8 @@ impl<C: PublicKey> Driver<C> {
             NoneLate C.cmp (as_nanos now) self.new }
         ensures to_ask { NoneToAsk C.cmp (as_nanos now) self.old →
             NoneToAsk C.cmp (as_nanos now) self.new }
+        ensures kept { NoneCooled C.cmp (as_nanos now) self.old →
+            NoneCooled C.cmp (as_nanos now) self.new }
         ensures same { NoneToDial (as_nanos now) self.old → self.new ≡ self.old }
     {
         let mut all = Ok(());
@@ -103,6 +105,7 @@ impl<C: PublicKey> Driver<C> {
             &mut self.node,
             &mut self.reads,
             &mut self.links,
+            &mut self.next_dial.grants,
             &mut self.actions,
             peer,
             number,

@@ -235,6 +235,7 @@ impl<C: PublicKey> Driver<C> {
                     dialer,
                     time,
                 );
+                self.next_dial.grants.remove(&peer);
                 self.next_dial.from = Some(Duration::ZERO);
                 Ok(Heard::Greeted)
             }

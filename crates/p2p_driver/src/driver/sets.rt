@@ -28,7 +28,8 @@ pub enum Tracked {
 impl<C: PublicKey> Driver<C> {
     /// A set of peers came, with its index. If it is accepted, each link of a peer that is in no
     /// retained set any more, and is no bootstrapper, is closed as `NoSet`, unless it was closed
-    /// before. It returns what became of the set.
+    /// before. If the grant of a dial is kept of such a peer, the peer is released. It returns what
+    /// became of the set.
     ///
     /// If the set is stale, no link is closed. If it is too large, nothing has changed.
     ///
@@ -40,7 +41,8 @@ impl<C: PublicKey> Driver<C> {
     /// # Cost
     ///
     /// That of [`Directory::track`](p2p_tracker::directory::Directory::track), and two searches
-    /// among the links for each peer that is in no retained set any more.
+    /// among the links for each peer that is in no retained set any more. One pass over the grants
+    /// of dials for each that is given up, and one more.
     pub fn track(
         &mut self,
         index: u64,
@@ -68,9 +70,11 @@ impl<C: PublicKey> Driver<C> {
                 Ok(Tracked::Stale)
             }
             Some(Some(torn)) => {
+                let time = later(self.latest, now.steady);
+                self.latest = time;
                 self.next_dial.from = Some(Duration::ZERO);
-                self.latest = later(self.latest, now.steady);
                 connections::shut_all(&mut self.links, &mut self.actions, torn.as_slice());
+                self.free_all_unfit(time);
                 Ok(Tracked::Accepted)
             }
         }

@@ -10,7 +10,8 @@ ghost use Rattle.p2p_driver.specs.Happenings.Happening.{Passed};
 ghost use Rattle.p2p_driver.specs.Links.{link_of, is_to_ask};
 ghost use Rattle.p2p_driver.specs.Timers.{NoneLate, NoneToAsk, NoneDue, IsAsBefore};
 ghost use Rattle.p2p_driver.specs.Timers.{ClosesOne, ClosesLate, AsksOne, AsksAll, TimesOut};
-ghost use Rattle.p2p_driver.specs.Timers.{earlier, held_moment, IsNextTimeout, NoneToDial, dial_due};
+ghost use Rattle.p2p_driver.specs.Timers.{earlier, held_moment, IsNextTimeout, NoneToDial};
+ghost use Rattle.p2p_driver.specs.Timers.{dial_due};
 
 use crate::actions::Why;
 use crate::driver::{Driver, later};
@@ -36,6 +37,9 @@ impl<C: PublicKey> Driver<C> {
     /// sent. A peer isn't asked if `queue` frames of its link were said and aren't written: it is
     /// as if it had been, and the next question is due a `tick` later.
     ///
+    /// The grant of a dial that came to nothing is kept until its cooldown is over: then its peer
+    /// is released.
+    ///
     /// While a dial has a place, by `links`, `outbound` and `dials` of the settings, and somebody
     /// may be dialled, by [`Directory::dialable`](p2p_tracker::directory::Directory::dialable), one
     /// of these is, for each random word: it says which one, and the jitter.
@@ -53,13 +57,14 @@ impl<C: PublicKey> Driver<C> {
     ///
     /// # Cost
     ///
-    /// One pass over the streams and the links for each that is closed, and three more. Some
-    /// searches among the links and that of [`Node::ask`](p2p_directory::node::Node::ask) for each
-    /// that is asked. That of [`Node::forget_cooled`](p2p_directory::node::Node::forget_cooled),
-    /// and that of [`Node::unblock_expired`](p2p_directory::node::Node::unblock_expired). For
-    /// each word two passes over the links, if it is time to dial; then, if a dial has a place, that
-    /// of [`Directory::dialable`](p2p_tracker::directory::Directory::dialable); and then, if
-    /// somebody may be dialled, that of [`Node::dial`](p2p_directory::node::Node::dial).
+    /// One pass over the grants of dials for each that is given up, and one more. One pass over the
+    /// streams and the links for each that is closed, and three more. Some searches among the links
+    /// and that of [`Node::ask`](p2p_directory::node::Node::ask) for each that is asked. That of
+    /// [`Node::forget_cooled`](p2p_directory::node::Node::forget_cooled), and that of
+    /// [`Node::unblock_expired`](p2p_directory::node::Node::unblock_expired). For each word two
+    /// passes over the links, if it is time to dial; then, if a dial has a place, that of
+    /// [`Directory::dialable`](p2p_tracker::directory::Directory::dialable); and then, if somebody
+    /// may be dialled, that of [`Node::dial`](p2p_directory::node::Node::dial).
     pub fn timeout(&mut self, words: &[u64], now: Now) -> Result<(), AllocError>
         ensures did { let wire = ⟦<C as Frames>⟧.wire in
             TimesOut C.cmp wire (as_nanos now.steady) words.now result self.old self.new }
@@ -77,18 +82,20 @@ impl<C: PublicKey> Driver<C> {
         self.pass(now);
         self.close_all_late(now);
         let asked = self.ask_all_due(now);
+        self.free_all_cooled(now);
         let dialed = self.dial_all_due(words, now);
         asked.and(dialed)
     }
 
     /// When something is due next, a steady time: a stream or a link is late, a peer is to be
-    /// asked, a block or a cooldown ends, or somebody may be dialled. `None` if there is nothing
-    /// that may become due. A moment above the greatest `Duration` is that one. It doesn't allocate, and
-    /// changes nothing.
+    /// asked, a block or a cooldown ends, that of a grant that is kept too, or somebody may be
+    /// dialled. `None` if there is nothing that may become due. A moment above the greatest
+    /// `Duration` is that one. It doesn't allocate, and changes nothing.
     ///
     /// # Cost
     ///
-    /// One pass over the streams, and three over the links.
+    /// One pass over the streams, some over the links, and one over the grants of dials with a
+    /// search among the links for each.
     pub fn next_timeout(&self) -> Option<Duration>
         ensures { IsNextTimeout C.cmp self.now (option_map as_nanos result) }
     {
@@ -96,8 +103,12 @@ impl<C: PublicKey> Driver<C> {
         let link = self.links.next_due(&self.pace);
         let block = self.node.directory().next_unblock();
         let cooldown = self.node.next_cooled();
+        let kept = self
+            .next_dial
+            .grants
+            .next_cooled(&self.links, self.cooldown);
         earlier(
-            moment(self.dial_due()),
+            earlier(moment(self.dial_due()), moment(kept)),
             earlier(
                 earlier(moment(stream), moment(link)),
                 earlier(block, cooldown),

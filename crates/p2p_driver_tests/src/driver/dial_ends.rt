@@ -29,8 +29,8 @@ fn seen(driver: &Driver<TestKey>) -> (Option<Status>, Option<Link>) {
     )
 }
 
-// Peer 1 has no link, and isn't reserved.
-const FREE: (Option<Status>, Option<Link>) = (Some(Status::Inert), None);
+// Peer 1 has no link, and is reserved.
+const KEPT: (Option<Status>, Option<Link>) = (Some(Status::Reserved), None);
 
 // Whether a dial ends that failed, and once more, and what is said; what is seen of its peer; who
 // is dialled then, and at 60,999 ms and 61 s.
@@ -48,18 +48,18 @@ fn fails(alloc: Global, driver: &mut Driver<TestKey>) -> Result<Fails, Fail> {
         driver.ended(Link(1), at(2_000)),
     ];
     let silent = next(driver);
-    let free = seen(driver);
+    let kept = seen(driver);
     driver.timeout(&[0, 0], at(2_000))?;
     let other = next_two(driver);
     driver.ended(Link(2), at(3_000));
     driver.timeout(&[0, 0], at(60_999))?;
     let early = next_two(driver);
     driver.timeout(&[0, 0], at(61_000))?;
-    Ok((ended, silent, free, [other, early, next_two(driver)]))
+    Ok((ended, silent, kept, [other, early, next_two(driver)]))
 }
 
 #[test]
-fn a_dial_that_failed_releases_its_peer(rt: HostRuntime) -> Result<(), Fail> {
+fn a_dial_that_failed_keeps_its_grant(rt: HostRuntime) -> Result<(), Fail> {
     let alloc = rt.alloc();
     let found = driven(alloc, SETTINGS, dialing(alloc), |driver| {
         fails(alloc, driver)
@@ -69,7 +69,7 @@ fn a_dial_that_failed_releases_its_peer(rt: HostRuntime) -> Result<(), Fail> {
         [Said::Nothing, Said::Nothing],
         [Said::Dialed(3, 1), Said::Nothing],
     ];
-    assert_eq!(rt; found, ([true, false], Said::Nothing, FREE, said));
+    assert_eq!(rt; found, ([true, false], Said::Nothing, KEPT, said));
     Ok(())
 }
 
@@ -215,7 +215,7 @@ fn who_was_parted_from_may_be_dialled_again(rt: HostRuntime) -> Result<(), Fail>
 
 // What becomes of streams of peer 10, whose key is above the own one: of one that has claimed
 // before it is dialled, its proof; and of one that comes while the dial is under way, once its
-// stream is proved, and once it ended, its claim; and what is said of each.
+// stream is proved, and once it ended, when its grant is kept, its claim; and what is said of each.
 type Beside = ([bool; 2], [[Said; 2]; 4], [bool; 3]);
 
 fn beside(alloc: Global, driver: &mut Driver<TestKey>) -> Result<Beside, Fail> {
@@ -238,14 +238,15 @@ fn beside(alloc: Global, driver: &mut Driver<TestKey>) -> Result<Beside, Fail> {
 }
 
 #[test]
-fn who_is_dialled_is_not_let_in(rt: HostRuntime) -> Result<(), Fail> {
+fn who_is_dialled_is_let_in_once_that_ended(rt: HostRuntime) -> Result<(), Fail> {
     let alloc = rt.alloc();
     let found = driven(alloc, SETTINGS, dialing(alloc), |driver| {
         beside(alloc, driver)
     })??;
     let refused = |link| [Said::Closed(link, Why::NotGranted), Said::Nothing];
-    let said = [refused(1), refused(3), refused(4), refused(5)];
-    assert_eq!(rt; found, ([true, false], said, [false, false, false]));
+    let silent = [Said::Nothing, Said::Nothing];
+    let said = [refused(1), refused(3), refused(4), silent];
+    assert_eq!(rt; found, ([true, false], said, [false, false, true]));
     Ok(())
 }
 

@@ -199,17 +199,10 @@ fn a_dial_of_another_key_is_closed(rt: HostRuntime) -> Result<(), Fail> {
         let found = tested(alloc, dialing(alloc), |driver| wrong(alloc, driver, peer))??;
         let said = [Said::Closed(1, Why::WrongKey), Said::Nothing];
         let statuses = [Some(Status::Reserved), Some(Status::Inert)];
-        let released = Some(Status::Inert);
+        let kept = Some(Status::Reserved);
         assert_eq!(rt;
             found,
-            (
-                false,
-                said,
-                (false, Said::Nothing),
-                statuses,
-                true,
-                released
-            )
+            (false, said, (false, Said::Nothing), statuses, true, kept)
         );
     }
     Ok(())

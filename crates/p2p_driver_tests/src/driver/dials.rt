@@ -8,7 +8,8 @@ use p2p_driver::driver::Driver;
 use p2p_driver::link::{Link, Now};
 use p2p_driver::pace::Pace;
 use p2p_driver_fixtures::{
-    SETTINGS, Said, at, dialing, driven, know, next, next_two, pass, prove, tested, track,
+    SETTINGS, Said, admitted, at, dialing, driven, greeting, know, next, next_two, pass, prove,
+    tested, track,
 };
 use std::alloc::{AllocError, Global};
 use std::test::Fail;
@@ -294,7 +295,7 @@ fn at_nanos(nanos: u64) -> Now {
     }
 }
 
-// When the tested driver wakes once peer 1 was dialled with a word at 1 s, and the dial failed; and
+// When the tested driver wakes once peer 1 was dialled with a word at 1 s, greeted, and left; and
 // what it says a nanosecond before so many, and then.
 type Again = (Option<Duration>, [[Said; 2]; 2]);
 
@@ -306,8 +307,13 @@ fn again(
 ) -> Result<Again, Fail> {
     know(alloc, driver, "track 0 1", &["1@1000"])?;
     driver.timeout(&[word], at(1_000))?;
+    driver.proved(Link(1), TestKey(1), 0, at(1_000))?;
+    let _ = admitted(driver, Link(1), &greeting(alloc, "1@1000")?, at(1_000));
+    let _ = driver.judged(Link(1), &[true], at(1_000));
     driver.ended(Link(1), at(1_000));
-    next(driver);
+    for _ in 0..8u32 {
+        next(driver);
+    }
     driver.timeout(&[0], at(1_000))?;
     let wake = driver.next_timeout();
     driver.timeout(&[0], at_nanos(nanos.saturating_sub(1)))?;

@@ -160,7 +160,7 @@ invariant_of-self-in-Breach g c = (
       (breaks_on g.C.Ord.cmp (wire_in g) c.self.inside.node c.self.inside.pace c.self.inside.greeting (as_nanos c.self.inside.cooldown) c.self.inside.next_dial (as_nanos c.self.inside.latest)
       c.self.inside.next c.self.inside.arrivals c.self.inside.answers c.self.inside.reads c.self.inside.links c.self.inside.actions.items
       c.args.link.0 c.args.peer.now c.args.owed c.args.frame.now c.args.now.wall c.later-time.result (no_earlier _ _ _ c.later-time.ensures)
-      c.in-Breach.breach c.break_off.result c.break_off.new.node _ c.break_off.new.links c.break_off.new.actions.items (refl, refl)
+      c.in-Breach.breach c.break_off.result c.break_off.new.node _ c.break_off.new.links c.break_off.new.actions.items ((refl, refl), refl)
       (found_as g.C.Ord.cmp (wire_in g) c.args.link.0 c.args.peer.now c.args.owed c.args.frame.now c.args.now.wall c.args.came (came.Breach c.in-Breach.breach)
       c.args.self.now
       (seen c.self.inside.node c.self.inside.pace c.self.inside.greeting (as_nanos c.self.inside.cooldown) c.self.inside.next_dial (as_nanos c.self.inside.latest)
@@ -179,7 +179,7 @@ returns-in-Breach g c = heard_of g.C.Ord.cmp (wire_in g) c.self.view_is c.args.l
     (breaks_on g.C.Ord.cmp (wire_in g) c.self.inside.node c.self.inside.pace c.self.inside.greeting (as_nanos c.self.inside.cooldown) c.self.inside.next_dial (as_nanos c.self.inside.latest)
     c.self.inside.next c.self.inside.arrivals c.self.inside.answers c.self.inside.reads c.self.inside.links c.self.inside.actions.items
     c.args.link.0 c.args.peer.now c.args.owed c.args.frame.now c.args.now.wall c.later-time.result (no_earlier _ _ _ c.later-time.ensures)
-    c.in-Breach.breach c.break_off.result c.break_off.new.node _ c.break_off.new.links c.break_off.new.actions.items (refl, refl)
+    c.in-Breach.breach c.break_off.result c.break_off.new.node _ c.break_off.new.links c.break_off.new.actions.items ((refl, refl), refl)
     (found_as g.C.Ord.cmp (wire_in g) c.args.link.0 c.args.peer.now c.args.owed c.args.frame.now c.args.now.wall c.args.came (came.Breach c.in-Breach.breach)
     c.args.self.now
     (seen c.self.inside.node c.self.inside.pace c.self.inside.greeting (as_nanos c.self.inside.cooldown) c.self.inside.next_dial (as_nanos c.self.inside.latest)

@@ -53,7 +53,7 @@ pub invariant_of-self : goal.invariant_of-self
 invariant_of-self g c = let d = c.self.inside in (
   goes_on _ _ _ c.self.invariant.0
       (undials g.C.Ord.cmp (wire_in g) d.node d.pace d.greeting (as_nanos d.cooldown) d.next_dial (as_nanos d.latest) d.next d.arrivals d.answers d.reads d.links d.actions.items
-      c.args.now _ refl c.retry-self-inside.ensures
+      c.args.now _ refl refl c.retry-self-inside.ensures
       (ap (λ (v : DriverView g.row.C.Denot g.row.C-Signature.Denot). v.latest) c.self.view_is ∙ c.requires)
       (subst (λ (v : DriverView g.row.C.Denot g.row.C-Signature.Denot). is_to_dial (as_nanos c.args.now) v ≡ true) (sym c.self.view_is)
       (sym c.is_to_dial.ensures ∙ c.if-not-is_to_dial.false)) c.in_default.ensures.err),
@@ -69,7 +69,7 @@ returns-in_default g c = let d = c.self.inside in
     (seen d.node d.pace d.greeting (as_nanos d.cooldown) (record d.next_dial { retry = c.retry-self-inside.result }) (as_nanos d.latest) d.next d.arrivals d.answers d.reads d.links d.actions.items))
     c.self.view_is
     (dial_fails g.C.Ord.cmp (wire_in g) d.node d.pace d.greeting (as_nanos d.cooldown) d.next_dial (as_nanos d.latest) d.next d.arrivals d.answers d.reads d.links d.actions.items
-    c.args.now c.args.word _ refl c.retry-self-inside.ensures
+    c.args.now c.args.word _ refl refl c.retry-self-inside.ensures
     (ap (λ (v : DriverView g.row.C.Denot g.row.C-Signature.Denot). v.latest) c.self.view_is ∙ c.requires)
     (subst (λ (v : DriverView g.row.C.Denot g.row.C-Signature.Denot). is_to_dial (as_nanos c.args.now) v ≡ true) (sym c.self.view_is)
     (sym c.is_to_dial.ensures ∙ c.if-not-is_to_dial.false)) c.in_default.ensures.err)
@@ -77,7 +77,7 @@ returns-in_default g c = let d = c.self.inside in
 pub invariant_of-self-then-is_empty : goal.invariant_of-self-then-is_empty
 invariant_of-self-then-is_empty g c = let d = c.self.inside in (
   quiet_on g.C.Ord.cmp (wire_in g) d.node d.pace d.greeting (as_nanos d.cooldown) d.next_dial (as_nanos d.latest) d.next d.arrivals d.answers d.reads d.links d.actions.items
-      c.self.invariant.0 c.args.now (record d.next_dial { from = c.in-Ok.dialable.next_query_at }) refl
+      c.self.invariant.0 c.args.now (record d.next_dial { from = c.in-Ok.dialable.next_query_at }) refl refl
       (ap (λ (v : DriverView g.row.C.Denot g.row.C-Signature.Denot). v.latest) c.self.view_is ∙ c.requires)
       (c.in-Ok.ensures.quiet (no_items _ (ap length c.as_slice-peers.ensures.value) (sym c.is_empty.ensures ∙ c.if-is_empty.true))),
   record {
@@ -92,7 +92,7 @@ returns-then-is_empty g c = let d = c.self.inside in
     (seen d.node d.pace d.greeting (as_nanos d.cooldown) (record d.next_dial { from = c.in-Ok.dialable.next_query_at }) (as_nanos d.latest) d.next d.arrivals d.answers d.reads d.links d.actions.items))
     c.self.view_is
     (dial_rests g.C.Ord.cmp (wire_in g) d.node d.pace d.greeting (as_nanos d.cooldown) d.next_dial (as_nanos d.latest) d.next d.arrivals d.answers d.reads d.links d.actions.items
-    c.args.now c.args.word (record d.next_dial { from = c.in-Ok.dialable.next_query_at }) refl
+    c.args.now c.args.word (record d.next_dial { from = c.in-Ok.dialable.next_query_at }) refl refl
     (ap (λ (v : DriverView g.row.C.Denot g.row.C-Signature.Denot). v.latest) c.self.view_is ∙ c.requires)
     (subst (λ (v : DriverView g.row.C.Denot g.row.C-Signature.Denot). is_to_dial (as_nanos c.args.now) v ≡ true) (sym c.self.view_is)
     (sym c.is_to_dial.ensures ∙ c.if-not-is_to_dial.false)) c.in-Ok.ensures.later
@@ -119,7 +119,7 @@ invariant_of-self-then-is_err g c = let d = c.self-2.inside in
     ) in (
       goes_on _ _ _ c.self-2.invariant.0
           (undials g.C.Ord.cmp (wire_in g) d.node d.pace d.greeting (as_nanos d.cooldown) d.next_dial (as_nanos d.latest) d.next d.arrivals d.answers d.reads d.links d.actions.items
-          c.args.now _ refl c.retry-self-inside-then-is_err.ensures at.0 at.1 (somebody_of g.C.Ord.cmp _ at.2)),
+          c.args.now _ refl refl c.retry-self-inside-then-is_err.ensures at.0 at.1 (somebody_of g.C.Ord.cmp _ at.2)),
       record {
         actions_fit = c.self-2.invariant.1.actions_fit;
         answers_fit = c.self-2.invariant.1.answers_fit;
@@ -142,4 +142,4 @@ returns-then-is_err g c = let d = c.self-2.inside in
     (seen d.node d.pace d.greeting (as_nanos d.cooldown) (record d.next_dial { retry = c.retry-self-inside-then-is_err.result }) (as_nanos d.latest) d.next d.arrivals d.answers d.reads d.links d.actions.items))
     kept
     (dial_fails g.C.Ord.cmp (wire_in g) d.node d.pace d.greeting (as_nanos d.cooldown) d.next_dial (as_nanos d.latest) d.next d.arrivals d.answers d.reads d.links d.actions.items
-    c.args.now c.args.word _ refl c.retry-self-inside-then-is_err.ensures at.0 at.1 (somebody_of g.C.Ord.cmp _ at.2))
+    c.args.now c.args.word _ refl refl c.retry-self-inside-then-is_err.ensures at.0 at.1 (somebody_of g.C.Ord.cmp _ at.2))

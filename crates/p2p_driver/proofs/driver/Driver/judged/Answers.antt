@@ -77,7 +77,7 @@ invariant_of-self-in-Greeted g c =
           (waits_seen g.C.Ord.cmp (wire_in g) g.met.C.PublicKey.exact (seen c.self.inside.node c.self.inside.pace c.self.inside.greeting (as_nanos c.self.inside.cooldown) c.self.inside.next_dial (as_nanos c.self.inside.latest)
           c.self.inside.next c.self.inside.arrivals c.self.inside.answers c.self.inside.reads c.self.inside.links c.self.inside.actions.items) c.self.invariant.0 c.in-Some.peer c.in-Some-get.held.now linked c.in-Some-waiting.waiting c.in-Some-waiting.is)
           (search rules)
-          c.is_dialer-dialer.result c.in-Greeted.ensures.0 greets.0 c.judge-judged.new.node c.greet.new.node _ c.greet.new.links c.greet.new.actions.items (refl, refl) c.is_dialer-dialer.ensures
+          c.is_dialer-dialer.result c.in-Greeted.ensures.0 greets.0 c.judge-judged.new.node c.greet.new.node _ c.greet.new.links c.greet.new.actions.items (refl, refl) c.remove.ensures.gone c.is_dialer-dialer.ensures
           (c.in-Greeted.ensures.1 c.is_dialer-dialer.result greets.0) c.in-Greeted.ensures.2 c.greet.ensures.made greets.1 greets.2 (follows_from (search rules) greets.3)),
       record {
         actions_fit = (let f0 = c.reserve.ensures.room in let f1 = c.greet.ensures.room in let fits = c.self.invariant.1.actions_fit in grind (arith));
@@ -98,7 +98,7 @@ returns-in-Greeted g c =
     (waits_seen g.C.Ord.cmp (wire_in g) g.met.C.PublicKey.exact (seen c.self.inside.node c.self.inside.pace c.self.inside.greeting (as_nanos c.self.inside.cooldown) c.self.inside.next_dial (as_nanos c.self.inside.latest)
     c.self.inside.next c.self.inside.arrivals c.self.inside.answers c.self.inside.reads c.self.inside.links c.self.inside.actions.items) c.self.invariant.0 c.in-Some.peer c.in-Some-get.held.now linked c.in-Some-waiting.waiting c.in-Some-waiting.is)
     (search rules)
-    c.is_dialer-dialer.result c.in-Greeted.ensures.0 greets.0 c.judge-judged.new.node c.greet.new.node _ c.greet.new.links c.greet.new.actions.items (refl, refl) c.is_dialer-dialer.ensures
+    c.is_dialer-dialer.result c.in-Greeted.ensures.0 greets.0 c.judge-judged.new.node c.greet.new.node _ c.greet.new.links c.greet.new.actions.items (refl, refl) c.remove.ensures.gone c.is_dialer-dialer.ensures
     (c.in-Greeted.ensures.1 c.is_dialer-dialer.result greets.0) c.in-Greeted.ensures.2 c.greet.ensures.made greets.1 greets.2 (follows_from (search rules) greets.3))
 
 pub invariant_of-self-in-Applied : goal.invariant_of-self-in-Applied
@@ -112,7 +112,7 @@ invariant_of-self-in-Applied g c =
           (waits_seen g.C.Ord.cmp (wire_in g) g.met.C.PublicKey.exact (seen c.self.inside.node c.self.inside.pace c.self.inside.greeting (as_nanos c.self.inside.cooldown) c.self.inside.next_dial (as_nanos c.self.inside.latest)
           c.self.inside.next c.self.inside.arrivals c.self.inside.answers c.self.inside.reads c.self.inside.links c.self.inside.actions.items) c.self.invariant.0 c.in-Some.peer c.in-Some-get.held.now linked c.in-Some-waiting.waiting c.in-Some-waiting.is)
           (search rules)
-          c.in-Applied.ensures.0 c.judge-judged.new.node _ c.hear.new.self c.give_back-in-Applied.new.self.items (refl, refl) c.in-Applied.ensures.2 c.in-Applied.ensures.3
+          c.in-Applied.ensures.0 c.judge-judged.new.node _ c.hear.new.self c.give_back-in-Applied.new.self.items ((refl, refl), refl) c.in-Applied.ensures.2 c.in-Applied.ensures.3
           c.hear.ensures.links c.hear.ensures.counts (search rules)),
       record {
         actions_fit = (let f0 = c.reserve.ensures.room in let f1 = c.give_back-in-Applied.ensures.room in let f2 = c.hear.ensures.needs in let fits = c.self.invariant.1.actions_fit in grind (arith));
@@ -132,7 +132,7 @@ returns-in-Applied g c =
     (waits_seen g.C.Ord.cmp (wire_in g) g.met.C.PublicKey.exact (seen c.self.inside.node c.self.inside.pace c.self.inside.greeting (as_nanos c.self.inside.cooldown) c.self.inside.next_dial (as_nanos c.self.inside.latest)
     c.self.inside.next c.self.inside.arrivals c.self.inside.answers c.self.inside.reads c.self.inside.links c.self.inside.actions.items) c.self.invariant.0 c.in-Some.peer c.in-Some-get.held.now linked c.in-Some-waiting.waiting c.in-Some-waiting.is)
     (search rules)
-    c.in-Applied.ensures.0 c.judge-judged.new.node _ c.hear.new.self c.give_back-in-Applied.new.self.items (refl, refl) c.in-Applied.ensures.2 c.in-Applied.ensures.3
+    c.in-Applied.ensures.0 c.judge-judged.new.node _ c.hear.new.self c.give_back-in-Applied.new.self.items ((refl, refl), refl) c.in-Applied.ensures.2 c.in-Applied.ensures.3
     c.hear.ensures.links c.hear.ensures.counts (search rules))
 
 pub invariant_of-self-then-is_early : goal.invariant_of-self-then-is_early
@@ -182,7 +182,7 @@ invariant_of-self-in-Refused-2 g c =
           (waits_seen g.C.Ord.cmp (wire_in g) g.met.C.PublicKey.exact (seen c.self.inside.node c.self.inside.pace c.self.inside.greeting (as_nanos c.self.inside.cooldown) c.self.inside.next_dial (as_nanos c.self.inside.latest)
           c.self.inside.next c.self.inside.arrivals c.self.inside.answers c.self.inside.reads c.self.inside.links c.self.inside.actions.items) c.self.invariant.0 c.in-Some.peer c.in-Some-get.held.now linked c.in-Some-waiting.waiting c.in-Some-waiting.is)
           (search rules)
-          c.in-Refused-2.error c.break_off.result c.judge-judged.new.node c.break_off.new.node _ c.break_off.new.links c.break_off.new.actions.items (refl, refl)
+          c.in-Refused-2.error c.break_off.result c.judge-judged.new.node c.break_off.new.node _ c.break_off.new.links c.break_off.new.actions.items ((refl, refl), refl)
           (c.in-Refused-2.ensures.1, c.in-Refused-2.ensures.2, c.in-Refused-2.ensures.3)
           (ap is_early (refused_is c.in-Refused-2.error c.in-Refused.error (sym c.in-Refused-2.is ∙ c.in-Refused.is)) ∙ sym c.is_early.ensures ∙ c.if-is_early.false) c.in-Refused-2.ensures.0
           c.break_off.ensures.made c.break_off.ensures.taken
@@ -205,7 +205,7 @@ returns-in-Refused-2 g c =
     (waits_seen g.C.Ord.cmp (wire_in g) g.met.C.PublicKey.exact (seen c.self.inside.node c.self.inside.pace c.self.inside.greeting (as_nanos c.self.inside.cooldown) c.self.inside.next_dial (as_nanos c.self.inside.latest)
     c.self.inside.next c.self.inside.arrivals c.self.inside.answers c.self.inside.reads c.self.inside.links c.self.inside.actions.items) c.self.invariant.0 c.in-Some.peer c.in-Some-get.held.now linked c.in-Some-waiting.waiting c.in-Some-waiting.is)
     (search rules)
-    c.in-Refused-2.error c.break_off.result c.judge-judged.new.node c.break_off.new.node _ c.break_off.new.links c.break_off.new.actions.items (refl, refl)
+    c.in-Refused-2.error c.break_off.result c.judge-judged.new.node c.break_off.new.node _ c.break_off.new.links c.break_off.new.actions.items ((refl, refl), refl)
     (c.in-Refused-2.ensures.1, c.in-Refused-2.ensures.2, c.in-Refused-2.ensures.3)
     (ap is_early (refused_is c.in-Refused-2.error c.in-Refused.error (sym c.in-Refused-2.is ∙ c.in-Refused.is)) ∙ sym c.is_early.ensures ∙ c.if-is_early.false) c.in-Refused-2.ensures.0
     c.break_off.ensures.made c.break_off.ensures.taken

@@ -88,7 +88,7 @@ invariant_of-self-in-NoGreeting g c = (
       (breaks_on g.C.Ord.cmp (wire_in g) c.self.inside.node c.self.inside.pace c.self.inside.greeting (as_nanos c.self.inside.cooldown) c.self.inside.next_dial (as_nanos c.self.inside.latest)
       c.self.inside.next c.self.inside.arrivals c.self.inside.answers c.self.inside.reads c.self.inside.links c.self.inside.actions.items
       (longest g) c.args.link.0 c.args.peer.now c.args.owed c.args.head.now c.args.length c.later-time.result (no_earlier _ _ _ c.later-time.ensures)
-      (kind.NoGreeting) breach.NoGreeting c.break_off.result c.break_off.new.node _ c.break_off.new.links c.break_off.new.actions.items (refl, refl) (found_to g.C.Ord.cmp (longest g) c.args.link.0 c.args.peer.now c.args.owed c.args.head.now c.args.length c.args.kind (kind.NoGreeting) c.args.self.now
+      (kind.NoGreeting) breach.NoGreeting c.break_off.result c.break_off.new.node _ c.break_off.new.links c.break_off.new.actions.items ((refl, refl), refl) (found_to g.C.Ord.cmp (longest g) c.args.link.0 c.args.peer.now c.args.owed c.args.head.now c.args.length c.args.kind (kind.NoGreeting) c.args.self.now
       (seen c.self.inside.node c.self.inside.pace c.self.inside.greeting (as_nanos c.self.inside.cooldown) c.self.inside.next_dial (as_nanos c.self.inside.latest)
       c.self.inside.next c.self.inside.arrivals c.self.inside.answers c.self.inside.reads c.self.inside.links c.self.inside.actions.items) c.self.view_is c.in-NoGreeting.is c.requires.looks)
       refl (λ pace2 h. tt) c.break_off.ensures.made c.break_off.ensures.taken (c.break_off.ensures.follows c.args.link.0 c.args.owed)),
@@ -105,7 +105,7 @@ returns-in-NoGreeting g c = inr (heard_of g.C.Ord.cmp (wire_in g) c.self.view_is
     (breaks_on g.C.Ord.cmp (wire_in g) c.self.inside.node c.self.inside.pace c.self.inside.greeting (as_nanos c.self.inside.cooldown) c.self.inside.next_dial (as_nanos c.self.inside.latest)
     c.self.inside.next c.self.inside.arrivals c.self.inside.answers c.self.inside.reads c.self.inside.links c.self.inside.actions.items
     (longest g) c.args.link.0 c.args.peer.now c.args.owed c.args.head.now c.args.length c.later-time.result (no_earlier _ _ _ c.later-time.ensures)
-    (kind.NoGreeting) breach.NoGreeting c.break_off.result c.break_off.new.node _ c.break_off.new.links c.break_off.new.actions.items (refl, refl) (found_to g.C.Ord.cmp (longest g) c.args.link.0 c.args.peer.now c.args.owed c.args.head.now c.args.length c.args.kind (kind.NoGreeting) c.args.self.now
+    (kind.NoGreeting) breach.NoGreeting c.break_off.result c.break_off.new.node _ c.break_off.new.links c.break_off.new.actions.items ((refl, refl), refl) (found_to g.C.Ord.cmp (longest g) c.args.link.0 c.args.peer.now c.args.owed c.args.head.now c.args.length c.args.kind (kind.NoGreeting) c.args.self.now
     (seen c.self.inside.node c.self.inside.pace c.self.inside.greeting (as_nanos c.self.inside.cooldown) c.self.inside.next_dial (as_nanos c.self.inside.latest)
     c.self.inside.next c.self.inside.arrivals c.self.inside.answers c.self.inside.reads c.self.inside.links c.self.inside.actions.items) c.self.view_is c.in-NoGreeting.is c.requires.looks)
     refl (λ pace2 h. tt) c.break_off.ensures.made c.break_off.ensures.taken (c.break_off.ensures.follows c.args.link.0 c.args.owed)))
@@ -116,7 +116,7 @@ invariant_of-self-in-TooLong g c = (
       (breaks_on g.C.Ord.cmp (wire_in g) c.self.inside.node c.self.inside.pace c.self.inside.greeting (as_nanos c.self.inside.cooldown) c.self.inside.next_dial (as_nanos c.self.inside.latest)
       c.self.inside.next c.self.inside.arrivals c.self.inside.answers c.self.inside.reads c.self.inside.links c.self.inside.actions.items
       (longest g) c.args.link.0 c.args.peer.now c.args.owed c.args.head.now c.args.length c.later-time.result (no_earlier _ _ _ c.later-time.ensures)
-      (kind.TooLong) breach.FrameLength c.break_off-in-TooLong.result c.break_off-in-TooLong.new.node _ c.break_off-in-TooLong.new.links c.break_off-in-TooLong.new.actions.items (refl, refl) (found_to g.C.Ord.cmp (longest g) c.args.link.0 c.args.peer.now c.args.owed c.args.head.now c.args.length c.args.kind (kind.TooLong) c.args.self.now
+      (kind.TooLong) breach.FrameLength c.break_off-in-TooLong.result c.break_off-in-TooLong.new.node _ c.break_off-in-TooLong.new.links c.break_off-in-TooLong.new.actions.items ((refl, refl), refl) (found_to g.C.Ord.cmp (longest g) c.args.link.0 c.args.peer.now c.args.owed c.args.head.now c.args.length c.args.kind (kind.TooLong) c.args.self.now
       (seen c.self.inside.node c.self.inside.pace c.self.inside.greeting (as_nanos c.self.inside.cooldown) c.self.inside.next_dial (as_nanos c.self.inside.latest)
       c.self.inside.next c.self.inside.arrivals c.self.inside.answers c.self.inside.reads c.self.inside.links c.self.inside.actions.items) c.self.view_is c.in-TooLong.is c.requires.looks)
       refl (λ pace2 h. tt) c.break_off-in-TooLong.ensures.made c.break_off-in-TooLong.ensures.taken (c.break_off-in-TooLong.ensures.follows c.args.link.0 c.args.owed)),
@@ -133,7 +133,7 @@ returns-in-TooLong g c = inr (heard_of g.C.Ord.cmp (wire_in g) c.self.view_is c.
     (breaks_on g.C.Ord.cmp (wire_in g) c.self.inside.node c.self.inside.pace c.self.inside.greeting (as_nanos c.self.inside.cooldown) c.self.inside.next_dial (as_nanos c.self.inside.latest)
     c.self.inside.next c.self.inside.arrivals c.self.inside.answers c.self.inside.reads c.self.inside.links c.self.inside.actions.items
     (longest g) c.args.link.0 c.args.peer.now c.args.owed c.args.head.now c.args.length c.later-time.result (no_earlier _ _ _ c.later-time.ensures)
-    (kind.TooLong) breach.FrameLength c.break_off-in-TooLong.result c.break_off-in-TooLong.new.node _ c.break_off-in-TooLong.new.links c.break_off-in-TooLong.new.actions.items (refl, refl) (found_to g.C.Ord.cmp (longest g) c.args.link.0 c.args.peer.now c.args.owed c.args.head.now c.args.length c.args.kind (kind.TooLong) c.args.self.now
+    (kind.TooLong) breach.FrameLength c.break_off-in-TooLong.result c.break_off-in-TooLong.new.node _ c.break_off-in-TooLong.new.links c.break_off-in-TooLong.new.actions.items ((refl, refl), refl) (found_to g.C.Ord.cmp (longest g) c.args.link.0 c.args.peer.now c.args.owed c.args.head.now c.args.length c.args.kind (kind.TooLong) c.args.self.now
     (seen c.self.inside.node c.self.inside.pace c.self.inside.greeting (as_nanos c.self.inside.cooldown) c.self.inside.next_dial (as_nanos c.self.inside.latest)
     c.self.inside.next c.self.inside.arrivals c.self.inside.answers c.self.inside.reads c.self.inside.links c.self.inside.actions.items) c.self.view_is c.in-TooLong.is c.requires.looks)
     refl (λ pace2 h. tt) c.break_off-in-TooLong.ensures.made c.break_off-in-TooLong.ensures.taken (c.break_off-in-TooLong.ensures.follows c.args.link.0 c.args.owed)))

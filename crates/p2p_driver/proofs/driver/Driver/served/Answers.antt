@@ -32,7 +32,7 @@ wire_in g = wire_with g.C.PublicKey.verifies g.C.FixedBytes.spelled g.C.Signatur
     g.C.FixedBytes.value g.C.Signature.FixedBytes.SIZE g.C.Signature.FixedBytes.value
 
 -- all parts are as they were
-same_all : {C S : Type 0} (node node2 : NodeView C S) (pace : Pace) (greeting : List ℕ) (cooldown : ℕ) (dial : NextDial) (latest next : ℕ) (arrivals : List (Arrival C))
+same_all : {C S : Type 0} (node node2 : NodeView C S) (pace : Pace) (greeting : List ℕ) (cooldown : ℕ) (dial : NextDial C) (latest next : ℕ) (arrivals : List (Arrival C))
     (answers : AnswersView) (reads : List (ℕ × MetersView)) (links links2 : List (C × Held)) (actions actions2 : List (Action C)) → node2 ≡ node →
     links2 ≡ links → actions2 ≡ actions →
     seen node2 pace greeting cooldown dial latest next arrivals answers reads links2 actions2 ≡ seen node pace greeting cooldown dial latest next arrivals answers reads links actions
@@ -96,7 +96,7 @@ invariant_of-self-in-Reply g c =
           (serves_on g.C.Ord.cmp (wire_in g) c.self.inside.node c.self.inside.pace c.self.inside.greeting (as_nanos c.self.inside.cooldown) c.self.inside.next_dial (as_nanos c.self.inside.latest)
           c.self.inside.next c.self.inside.arrivals c.self.inside.answers c.self.inside.reads c.self.inside.links c.self.inside.actions.items
           c.args.link.0 c.args.peer.now c.args.owed c.args.frame.now c.args.now.wall c.later-time.result (no_earlier _ _ _ c.later-time.ensures)
-          (Outcome.Answers c.in-Reply.frame) c.serve.new.node c.self.inside.next_dial c.hear.new.self c.push.new.self.items (λ dials. tt) (inl (refl, refl)) found
+          (Outcome.Answers c.in-Reply.frame) c.serve.new.node c.self.inside.next_dial c.hear.new.self c.push.new.self.items (λ dials. tt) (inl (refl, refl, refl), λ q. refl) found
           (λ owed l j shares greets asked comes. (greets, asked, comes)) c.in-Reply.ensures.1 (sym found.owed_is)
           (λ given calls at. tt) (unchanged g.C.Ord.cmp c.self.inside.node c.serve.new.node c.in-Reply.ensures.0)
           (λ j place. refl) (record {
@@ -124,7 +124,7 @@ returns-else-not-say g c =
     (serves_on g.C.Ord.cmp (wire_in g) c.self.inside.node c.self.inside.pace c.self.inside.greeting (as_nanos c.self.inside.cooldown) c.self.inside.next_dial (as_nanos c.self.inside.latest)
     c.self.inside.next c.self.inside.arrivals c.self.inside.answers c.self.inside.reads c.self.inside.links c.self.inside.actions.items
     c.args.link.0 c.args.peer.now c.args.owed c.args.frame.now c.args.now.wall c.later-time.result (no_earlier _ _ _ c.later-time.ensures)
-    (Outcome.Answers c.in-Reply.frame) c.serve.new.node c.self.inside.next_dial c.hear.new.self c.push.new.self.items (λ dials. tt) (inl (refl, refl)) found
+    (Outcome.Answers c.in-Reply.frame) c.serve.new.node c.self.inside.next_dial c.hear.new.self c.push.new.self.items (λ dials. tt) (inl (refl, refl, refl), λ q. refl) found
     (λ owed l j shares greets asked comes. (greets, asked, comes)) c.in-Reply.ensures.1 (sym found.owed_is)
     (λ given calls at. tt) (unchanged g.C.Ord.cmp c.self.inside.node c.serve.new.node c.in-Reply.ensures.0)
     (λ j place. refl) (record {
@@ -141,7 +141,7 @@ invariant_of-self-in-Applied g c = (
       (serves_on g.C.Ord.cmp (wire_in g) c.self.inside.node c.self.inside.pace c.self.inside.greeting (as_nanos c.self.inside.cooldown) c.self.inside.next_dial (as_nanos c.self.inside.latest)
       c.self.inside.next c.self.inside.arrivals c.self.inside.answers c.self.inside.reads c.self.inside.links c.self.inside.actions.items
       c.args.link.0 c.args.peer.now c.args.owed c.args.frame.now c.args.now.wall c.later-time.result (no_earlier _ _ _ c.later-time.ensures)
-      (Outcome.Takes []) c.serve.new.node _ c.hear-in-Applied.new.self c.give_back-in-Applied.new.self.items (λ dials. tt) (inr (refl, refl)) (found_as g.C.Ord.cmp (wire_in g) c.args.link.0 c.args.peer.now c.args.owed c.args.frame.now c.args.now.wall came.Served (came.Served)
+      (Outcome.Takes []) c.serve.new.node _ c.hear-in-Applied.new.self c.give_back-in-Applied.new.self.items (λ dials. tt) (inr (refl, refl), λ q. refl) (found_as g.C.Ord.cmp (wire_in g) c.args.link.0 c.args.peer.now c.args.owed c.args.frame.now c.args.now.wall came.Served (came.Served)
       c.args.self.now
       (seen c.self.inside.node c.self.inside.pace c.self.inside.greeting (as_nanos c.self.inside.cooldown) c.self.inside.next_dial (as_nanos c.self.inside.latest)
       c.self.inside.next c.self.inside.arrivals c.self.inside.answers c.self.inside.reads c.self.inside.links c.self.inside.actions.items) c.self.view_is refl c.requires)
@@ -164,7 +164,7 @@ returns-in-Applied g c = heard_of g.C.Ord.cmp (wire_in g) c.self.view_is c.args.
     (serves_on g.C.Ord.cmp (wire_in g) c.self.inside.node c.self.inside.pace c.self.inside.greeting (as_nanos c.self.inside.cooldown) c.self.inside.next_dial (as_nanos c.self.inside.latest)
     c.self.inside.next c.self.inside.arrivals c.self.inside.answers c.self.inside.reads c.self.inside.links c.self.inside.actions.items
     c.args.link.0 c.args.peer.now c.args.owed c.args.frame.now c.args.now.wall c.later-time.result (no_earlier _ _ _ c.later-time.ensures)
-    (Outcome.Takes []) c.serve.new.node _ c.hear-in-Applied.new.self c.give_back-in-Applied.new.self.items (λ dials. tt) (inr (refl, refl)) (found_as g.C.Ord.cmp (wire_in g) c.args.link.0 c.args.peer.now c.args.owed c.args.frame.now c.args.now.wall came.Served (came.Served)
+    (Outcome.Takes []) c.serve.new.node _ c.hear-in-Applied.new.self c.give_back-in-Applied.new.self.items (λ dials. tt) (inr (refl, refl), λ q. refl) (found_as g.C.Ord.cmp (wire_in g) c.args.link.0 c.args.peer.now c.args.owed c.args.frame.now c.args.now.wall came.Served (came.Served)
     c.args.self.now
     (seen c.self.inside.node c.self.inside.pace c.self.inside.greeting (as_nanos c.self.inside.cooldown) c.self.inside.next_dial (as_nanos c.self.inside.latest)
     c.self.inside.next c.self.inside.arrivals c.self.inside.answers c.self.inside.reads c.self.inside.links c.self.inside.actions.items) c.self.view_is refl c.requires)
@@ -181,7 +181,7 @@ invariant_of-self-in-Malformed g c = (
       (serves_on g.C.Ord.cmp (wire_in g) c.self.inside.node c.self.inside.pace c.self.inside.greeting (as_nanos c.self.inside.cooldown) c.self.inside.next_dial (as_nanos c.self.inside.latest)
       c.self.inside.next c.self.inside.arrivals c.self.inside.answers c.self.inside.reads c.self.inside.links c.self.inside.actions.items
       c.args.link.0 c.args.peer.now c.args.owed c.args.frame.now c.args.now.wall c.later-time.result (no_earlier _ _ _ c.later-time.ensures)
-      (Outcome.Breaks breach.Malformed c.break_off.result) c.break_off.new.node _ c.break_off.new.links c.break_off.new.actions.items (λ dials. tt) (inr (refl, refl)) (found_as g.C.Ord.cmp (wire_in g) c.args.link.0 c.args.peer.now c.args.owed c.args.frame.now c.args.now.wall came.Served (came.Served)
+      (Outcome.Breaks breach.Malformed c.break_off.result) c.break_off.new.node _ c.break_off.new.links c.break_off.new.actions.items (λ dials. tt) (inr (refl, refl), λ q. refl) (found_as g.C.Ord.cmp (wire_in g) c.args.link.0 c.args.peer.now c.args.owed c.args.frame.now c.args.now.wall came.Served (came.Served)
       c.args.self.now
       (seen c.self.inside.node c.self.inside.pace c.self.inside.greeting (as_nanos c.self.inside.cooldown) c.self.inside.next_dial (as_nanos c.self.inside.latest)
       c.self.inside.next c.self.inside.arrivals c.self.inside.answers c.self.inside.reads c.self.inside.links c.self.inside.actions.items) c.self.view_is refl c.requires)
@@ -206,7 +206,7 @@ returns-in-Malformed g c = heard_of g.C.Ord.cmp (wire_in g) c.self.view_is c.arg
     (serves_on g.C.Ord.cmp (wire_in g) c.self.inside.node c.self.inside.pace c.self.inside.greeting (as_nanos c.self.inside.cooldown) c.self.inside.next_dial (as_nanos c.self.inside.latest)
     c.self.inside.next c.self.inside.arrivals c.self.inside.answers c.self.inside.reads c.self.inside.links c.self.inside.actions.items
     c.args.link.0 c.args.peer.now c.args.owed c.args.frame.now c.args.now.wall c.later-time.result (no_earlier _ _ _ c.later-time.ensures)
-    (Outcome.Breaks breach.Malformed c.break_off.result) c.break_off.new.node _ c.break_off.new.links c.break_off.new.actions.items (λ dials. tt) (inr (refl, refl)) (found_as g.C.Ord.cmp (wire_in g) c.args.link.0 c.args.peer.now c.args.owed c.args.frame.now c.args.now.wall came.Served (came.Served)
+    (Outcome.Breaks breach.Malformed c.break_off.result) c.break_off.new.node _ c.break_off.new.links c.break_off.new.actions.items (λ dials. tt) (inr (refl, refl), λ q. refl) (found_as g.C.Ord.cmp (wire_in g) c.args.link.0 c.args.peer.now c.args.owed c.args.frame.now c.args.now.wall came.Served (came.Served)
     c.args.self.now
     (seen c.self.inside.node c.self.inside.pace c.self.inside.greeting (as_nanos c.self.inside.cooldown) c.self.inside.next_dial (as_nanos c.self.inside.latest)
     c.self.inside.next c.self.inside.arrivals c.self.inside.answers c.self.inside.reads c.self.inside.links c.self.inside.actions.items) c.self.view_is refl c.requires)

@@ -18,7 +18,7 @@ pub invariant_of-self : goal.invariant_of-self
 invariant_of-self g c = let d = c.self.inside in (
   goes_on (Happening.Given c.args.infos.items c.later-self-inside.result) _ _ c.self.invariant.0
       (gives g.C.Ord.cmp (wire_in g) d.node d.pace d.greeting (as_nanos d.cooldown) d.next_dial (as_nanos d.latest) d.next d.arrivals d.answers d.reads d.links d.actions.items
-      c.args.infos.items c.later-self-inside.result c.update.new.node _ (refl, refl)
+      c.args.infos.items c.later-self-inside.result c.update.new.node _ ((refl, refl), refl)
       (no_earlier (as_nanos d.latest) (as_nanos c.args.now.steady) (as_nanos c.later-self-inside.result) c.later-self-inside.ensures)
       c.update.ensures),
   c.self.invariant.1,
@@ -32,7 +32,7 @@ returns g c = let d = c.self.inside in
       c.later-self-inside.result,
       c.later-self-inside.ensures,
       (gives g.C.Ord.cmp (wire_in g) d.node d.pace d.greeting (as_nanos d.cooldown) d.next_dial (as_nanos d.latest) d.next d.arrivals d.answers d.reads d.links d.actions.items
-          c.args.infos.items c.later-self-inside.result c.update.new.node _ (refl, refl)
+          c.args.infos.items c.later-self-inside.result c.update.new.node _ ((refl, refl), refl)
           (no_earlier (as_nanos d.latest) (as_nanos c.args.now.steady) (as_nanos c.later-self-inside.result) c.later-self-inside.ensures)
           c.update.ensures),
     )

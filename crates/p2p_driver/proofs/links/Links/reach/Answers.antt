@@ -3,7 +3,7 @@ use Rattle.std.specs.BTreeMap.{is_at}
 use Rattle.std.specs.Map.{set_value}
 use Rattle.std.specs.Prelude.{is_some}
 use Rattle.p2p_driver.specs.declared.links.Direction.{Direction}
-use Rattle.p2p_driver.specs.declared.links.Direction.TheVariants.{Inbound, Dialing, Outbound}
+use Rattle.p2p_driver.specs.declared.links.Direction.TheVariants.{Inbound, Dialing, Outbound, TakenOver}
 use Rattle.p2p_driver.specs.declared.links.Held.{Held}
 use Rattle.p2p_driver.specs.Links.{link_of, is_way, proved_way, reached, saying}
 use Rattle.p2p_driver.proofs.Linked.{said_at, said_moves, said_needs, inverse_said}
@@ -35,6 +35,7 @@ proved_out : (d : Direction) → is_way Dialing d ≡ true → proved_way d ≡ 
 proved_out Inbound is = cc
 proved_out Dialing is = refl
 proved_out Outbound is = cc
+proved_out TakenOver is = cc
 
 pub returns-clause-counts : goal.returns-clause-counts
 returns-clause-counts g c is dials way = said_moves g.met.C.Ord.total c.args.self.now c.reach.new.of_peers.entries
